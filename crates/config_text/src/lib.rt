@@ -1,0 +1,6 @@
+//! Configurations and their text.
+#![tactic(auto)]
+
+mod config;
+
+pub use config::{Config, GateLine, Item, Pool, ProcessLine, Script};

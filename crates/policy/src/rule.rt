@@ -1,0 +1,37 @@
+//! The rules.
+
+/// What a refusal names.
+#[derive(Clone, Copy, Debug, PartialEq, Eq)]
+pub enum Rule {
+    UnknownSegno,
+    KstFull,
+    BadEntry,
+    NoEntry,
+    EntryTaken,
+    SecrecyRead,
+    IntegrityRead,
+    SecrecyWrite,
+    IntegrityWrite,
+    RingRead,
+    RingWrite,
+    RingCall,
+    NotModify,
+    Compat,
+    BadClass,
+    BadBrackets,
+    BadSize,
+    Bounds,
+    Gone,
+    NotIn,
+    AlreadyIn,
+    NoFrame,
+    NoPage,
+    SerialsUsed,
+    NotEmpty,
+    ConsoleFull,
+    NoSlot,
+    NoScript,
+    StackFull,
+    StackEmpty,
+    BadMode,
+}
