@@ -7,7 +7,8 @@ use Rattle.script_lang.specs.declared.instr.Instr.TheVariants as I
 use Rattle.class_model.specs.Config.{Config}
 use Rattle.machine.specs.Opening.{machine}
 use Rattle.report.specs.Reported.{seen}
-use Rattle.schedule.specs.Schedule.{Shape, Events, Mix, scheduled}
+use Rattle.schedule.specs.Schedule.{Shape, scheduled}
+use Rattle.config_text.specs.declared.config.Item.TheVariants.{Events, Mix}
 use Rattle.report.proofs.Rows1.{k1, script, process, ev}
 
 abbrev row10 : Config
