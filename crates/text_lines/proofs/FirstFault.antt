@@ -1,5 +1,5 @@
 -- What is answered to lines is their first fault with its least code, or that there is none.
-use Rattle.std.proofs.Common.{◌≡◌, ℕ, zero, suc, ◌+◌, ◌-◌, ◌<◌, ◌≤◌, Bool, true, false, cond, List, [], ◌∷◌, ◌++◌, length, drop, Option, Some, None, Result, Ok, Err, refl, sym, ap, subst, ◌∙◌, arith, inl, inr}
+use Rattle.std.proofs.Common.{◌≡◌, ℕ, zero, suc, ◌+◌, ◌-◌, ◌≤◌, true, false, cond, List, [], ◌∷◌, ◌++◌, length, drop, Option, Some, None, Result, Ok, Err, refl, sym, ap, subst, ◌∙◌, arith, inl, inr}
 use Rattle.std.specs.Result.{result_err}
 use Rattle.std.proofs.lemmas.Option.{some_pair_parts}
 use Rattle.text_lines.specs.Faults.{Tests, LineRules, HasCode, HasNoCode, IsLeastCode, Leads, IsFaultAt, IsFirstFault, IsFaultless, Rises, Rising, first_code, or_else, code_or, judged, line_answer, and_then, lines_answer}
