@@ -1,10 +1,9 @@
 -- What is answered to a list of entries, and the order of the classes of a table.
-use Rattle.std.proofs.Common.{◌≡◌, ℕ, ◌<◌, ◌≤◌, ◌⊎◌, List, length, Option, Some, None, Result, Ok, Err, true, refl, sym, ap, subst, ◌∙◌, arith, inl, inr}
-use Rattle.std.specs.Prelude.{map, IsTrue}
+use Rattle.std.proofs.Common.{◌≡◌, ℕ, ◌<◌, ◌≤◌, List, length, Result, Ok, Err, sym, ap, subst, ◌∙◌, arith, inl, inr}
+use Rattle.std.specs.Prelude.{IsTrue}
 use Rattle.std.proofs.lemmas.Bool.{cases_lt}
-use Rattle.labels.specs.Label.{Label, ClassEntry, class_at, label_of, at_or_below}
-use Rattle.labels.specs.Order.{Dominates, IsLabel}
-use Rattle.labels.specs.Table.{IsSameEntry, StoodBefore, IsAboveFirst, IsSound, IsTable, IsFirstAt, IsTableAnswer, IsEntryAnswer, AreSound, IsEntriesAnswer}
+use Rattle.labels.specs.Label.{ClassEntry, label_of, at_or_below}
+use Rattle.labels.specs.Table.{StoodBefore, IsAboveFirst, IsSound, IsTable, IsFirstAt, IsTableAnswer, AreSound, IsEntriesAnswer}
 use Rattle.labels.specs.declared.fault.TableFault.{TableFault}
 use Rattle.labels.specs.declared.fault.TableFault.TheVariants.{TooMany, Twice, NotLow}
 use Rattle.labels.proofs.OrderLaws.{reflexive, transitive, antisymmetric, dominates_twin}

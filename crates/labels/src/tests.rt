@@ -61,11 +61,23 @@ fn tables(rt: HostRuntime) -> Result<(), Fail> {
     let apart = ("apart", "1{2}/15{}");
     let cases: [(&[(&str, &str)], Option<TableFault>); 7] = [
         (&[low, high, apart], None),
-        (&[low, high, ("low", "1{}/15{}")], Some(TableFault::Twice { index: 2 })),
-        (&[low, high, ("other", "1{3}/0{}")], Some(TableFault::Twice { index: 2 })),
+        (
+            &[low, high, ("low", "1{}/15{}")],
+            Some(TableFault::Twice { index: 2 }),
+        ),
+        (
+            &[low, high, ("other", "1{3}/0{}")],
+            Some(TableFault::Twice { index: 2 }),
+        ),
         (&[high, apart], Some(TableFault::NotLow { index: 1 })),
-        (&[("trusted", "0{}/0{}"), low], Some(TableFault::NotLow { index: 1 })),
-        (&[high, ("high", "0{}/15{}"), apart], Some(TableFault::Twice { index: 1 })),
+        (
+            &[("trusted", "0{}/0{}"), low],
+            Some(TableFault::NotLow { index: 1 }),
+        ),
+        (
+            &[high, ("high", "0{}/15{}"), apart],
+            Some(TableFault::Twice { index: 1 }),
+        ),
         (&[low; 17], Some(TableFault::TooMany { given: 17 })),
     ];
     for (rows, fault) in cases {
@@ -77,7 +89,11 @@ fn tables(rt: HostRuntime) -> Result<(), Fail> {
 #[test]
 fn classes(rt: HostRuntime) -> Result<(), Fail> {
     let mut entries = Vec::new(rt.alloc());
-    for (name, text) in [("low", "0{}/15{}"), ("high", "1{3}/0{}"), ("apart", "1{2}/15{}")] {
+    for (name, text) in [
+        ("low", "0{}/15{}"),
+        ("high", "1{3}/0{}"),
+        ("apart", "1{2}/15{}"),
+    ] {
         let name: ArrayString<16> = ArrayString::from(name).ok().ok_or("a name")?;
         entries.push((name, Label::parse(text).ok().ok_or("a label")?))?;
     }

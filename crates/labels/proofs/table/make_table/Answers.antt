@@ -1,5 +1,5 @@
-use Rattle.std.proofs.Common.{subst, ◌≡◌, Err, arith}
-use Rattle.std.specs.Prelude.{map, length}
+use Rattle.std.proofs.Common.{subst, Err, arith}
+use Rattle.std.specs.Prelude.{map}
 use Rattle.std.proofs.lemmas.List.{length-map}
 use Rattle.labels.specs.Table.{entry_of, IsEntriesAnswer}
 use Rattle.labels.proofs.Tables.{refused}
