@@ -27,35 +27,35 @@ pub home_of-pack_home : (h : Home) → home_in_range h ≡ true → home_of (pac
 home_of-pack_home Never range = refl
 home_of-pack_home Deleted range = refl
 home_of-pack_home (Stored page size) range =
-  let parts = and_parts (nat_lt page 32) (size_in_range size) range in
-  let sizes = and_parts (nat_le 1 size) (nat_le size 64) parts.1 in
-  let p : page < 32 = ltb-true page 32 parts.0 in
-  let z : size ≤ 64 = leb-true size 64 sizes.1 in
-  let f : HomeFields (home_word 1 0 (page + 1) size) 1 0 (page + 1) size = fields 1 0 (page + 1) size (omega arith) (omega arith) (omega arith) (omega arith) in
-  let e : page + 1 - 1 ≡ page = omega arith in
-  read_back (Stored page size) range (rw (f.state_is, f.page_is, f.size_is) (rw e refl))
+    let parts = and_parts (nat_lt page 32) (size_in_range size) range in
+    let sizes = and_parts (nat_le 1 size) (nat_le size 64) parts.1 in
+    let p : page < 32 = ltb-true page 32 parts.0 in
+    let z : size ≤ 64 = leb-true size 64 sizes.1 in
+    let f : HomeFields (home_word 1 0 (page + 1) size) 1 0 (page + 1) size = fields 1 0 (page + 1) size (omega arith) (omega arith) (omega arith) (omega arith) in
+    let e : page + 1 - 1 ≡ page = omega arith in
+    read_back (Stored page size) range (rw (f.state_is, f.page_is, f.size_is) (rw e refl))
 home_of-pack_home (Resident frame page size) range = resident page range
   where
     resident : (page : Option ℕ) → home_in_range (Resident frame page size) ≡ true → home_of (pack_home (Resident frame page size)) ≡ Resident frame page size
     resident None range =
-      let parts = and_parts (nat_lt frame 16 && true) (size_in_range size) range in
-      let sizes = and_parts (nat_le 1 size) (nat_le size 64) parts.1 in
-      let frames = and_parts (nat_lt frame 16) true parts.0 in
-      let p : frame < 16 = ltb-true frame 16 frames.0 in
-      let z : size ≤ 64 = leb-true size 64 sizes.1 in
-      let f : HomeFields (home_word 2 frame 0 size) 2 frame 0 size = fields 2 frame 0 size (omega arith) (omega arith) (omega arith) (omega arith) in
-      read_back (Resident frame None size) range (rw (f.state_is, f.frame_is, f.page_is, f.size_is) refl)
+        let parts = and_parts (nat_lt frame 16 && true) (size_in_range size) range in
+        let sizes = and_parts (nat_le 1 size) (nat_le size 64) parts.1 in
+        let frames = and_parts (nat_lt frame 16) true parts.0 in
+        let p : frame < 16 = ltb-true frame 16 frames.0 in
+        let z : size ≤ 64 = leb-true size 64 sizes.1 in
+        let f : HomeFields (home_word 2 frame 0 size) 2 frame 0 size = fields 2 frame 0 size (omega arith) (omega arith) (omega arith) (omega arith) in
+        read_back (Resident frame None size) range (rw (f.state_is, f.frame_is, f.page_is, f.size_is) refl)
     resident (Some page) range =
-      let parts = and_parts (nat_lt frame 16 && nat_lt page 32) (size_in_range size) range in
-      let sizes = and_parts (nat_le 1 size) (nat_le size 64) parts.1 in
-      let frames = and_parts (nat_lt frame 16) (nat_lt page 32) parts.0 in
-      let p : frame < 16 = ltb-true frame 16 frames.0 in
-      let q : page < 32 = ltb-true page 32 frames.1 in
-      let z : size ≤ 64 = leb-true size 64 sizes.1 in
-      let f : HomeFields (home_word 2 frame (page + 1) size) 2 frame (page + 1) size = fields 2 frame (page + 1) size (omega arith) (omega arith) (omega arith) (omega arith) in
-      let e : page + 1 - 1 ≡ page = omega arith in
-      let g : (page + 1 == 0) ≡ false = ne_eqb (page + 1) 0 (λ x. absurd (omega arith)) in
-      read_back (Resident frame (Some page) size) range (rw (f.state_is, f.frame_is, f.page_is, f.size_is) (rw (g, e) refl))
+        let parts = and_parts (nat_lt frame 16 && nat_lt page 32) (size_in_range size) range in
+        let sizes = and_parts (nat_le 1 size) (nat_le size 64) parts.1 in
+        let frames = and_parts (nat_lt frame 16) (nat_lt page 32) parts.0 in
+        let p : frame < 16 = ltb-true frame 16 frames.0 in
+        let q : page < 32 = ltb-true page 32 frames.1 in
+        let z : size ≤ 64 = leb-true size 64 sizes.1 in
+        let f : HomeFields (home_word 2 frame (page + 1) size) 2 frame (page + 1) size = fields 2 frame (page + 1) size (omega arith) (omega arith) (omega arith) (omega arith) in
+        let e : page + 1 - 1 ≡ page = omega arith in
+        let g : (page + 1 == 0) ≡ false = ne_eqb (page + 1) 0 (λ x. absurd (omega arith)) in
+        read_back (Resident frame (Some page) size) range (rw (f.state_is, f.frame_is, f.page_is, f.size_is) (rw (g, e) refl))
 
 -- the fields of an entry word
 pub record EntryFields (word : ℕ) (a : Alias) : Type 0 where
@@ -69,23 +69,29 @@ pub record EntryFields (word : ℕ) (a : Alias) : Type 0 where
 
 pub entry_fields : (a : Alias) → a.class < 16 → a.r1 ≤ 7 → a.r2 ≤ 7 → a.r3 ≤ 7 → a.size ≤ 64 → a.serial < 64 → EntryFields (pack_entry a) a
 entry_fields a c x y z n s = record {
-  class_is = omega arith; r1_is = omega arith; r2_is = omega arith; r3_is = omega arith; size_is = omega arith; serial_is = omega arith;
-  some = λ e. absurd (omega arith) }
+  class_is = omega arith;
+  r1_is = omega arith;
+  r2_is = omega arith;
+  r3_is = omega arith;
+  size_is = omega arith;
+  serial_is = omega arith;
+  some = λ e. absurd (omega arith);
+}
 
 -- an entry in range is read back from its word
 pub entry_of-pack_entry : (a : Alias) → alias_in_range a ≡ true → entry_of (pack_entry a) ≡ Some a
 entry_of-pack_entry a range =
-  let p1 = and_parts (nat_lt a.class 16 && nat_le a.r1 7 && nat_le a.r2 7 && nat_le a.r3 7 && size_in_range a.size) (nat_lt a.serial 64) range in
-  let p2 = and_parts (nat_lt a.class 16 && nat_le a.r1 7 && nat_le a.r2 7 && nat_le a.r3 7) (size_in_range a.size) p1.0 in
-  let p3 = and_parts (nat_lt a.class 16 && nat_le a.r1 7 && nat_le a.r2 7) (nat_le a.r3 7) p2.0 in
-  let p4 = and_parts (nat_lt a.class 16 && nat_le a.r1 7) (nat_le a.r2 7) p3.0 in
-  let p5 = and_parts (nat_lt a.class 16) (nat_le a.r1 7) p4.0 in
-  let sizes = and_parts (nat_le 1 a.size) (nat_le a.size 64) p2.1 in
-  let f : EntryFields (pack_entry a) a = entry_fields a (ltb-true a.class 16 p5.0) (leb-true a.r1 7 p5.1) (leb-true a.r2 7 p4.1) (leb-true a.r3 7 p3.1) (leb-true a.size 64 sizes.1) (ltb-true a.serial 64 p1.1) in
-  let read : alias_read (pack_entry a) ≡ a = (λ k. record { class = f.class_is k; r1 = f.r1_is k; r2 = f.r2_is k; r3 = f.r3_is k; size = f.size_is k; serial = f.serial_is k }) in
-  let some : (pack_entry a == 0) ≡ false = ne_eqb (pack_entry a) 0 f.some in
-  let spelled : alias_spelled (pack_entry a) (alias_read (pack_entry a)) ≡ Some a = ap (alias_spelled (pack_entry a)) read ∙ rw (range, eq-eqb (pack_entry a) (pack_entry a) refl) refl in
-  rw some (ap (λ (o : Option Alias). unwrap_or (option_and_then (λ x. Some (Some x)) o) None) spelled)
+    let p1 = and_parts (nat_lt a.class 16 && nat_le a.r1 7 && nat_le a.r2 7 && nat_le a.r3 7 && size_in_range a.size) (nat_lt a.serial 64) range in
+    let p2 = and_parts (nat_lt a.class 16 && nat_le a.r1 7 && nat_le a.r2 7 && nat_le a.r3 7) (size_in_range a.size) p1.0 in
+    let p3 = and_parts (nat_lt a.class 16 && nat_le a.r1 7 && nat_le a.r2 7) (nat_le a.r3 7) p2.0 in
+    let p4 = and_parts (nat_lt a.class 16 && nat_le a.r1 7) (nat_le a.r2 7) p3.0 in
+    let p5 = and_parts (nat_lt a.class 16) (nat_le a.r1 7) p4.0 in
+    let sizes = and_parts (nat_le 1 a.size) (nat_le a.size 64) p2.1 in
+    let f : EntryFields (pack_entry a) a = entry_fields a (ltb-true a.class 16 p5.0) (leb-true a.r1 7 p5.1) (leb-true a.r2 7 p4.1) (leb-true a.r3 7 p3.1) (leb-true a.size 64 sizes.1) (ltb-true a.serial 64 p1.1) in
+    let read : alias_read (pack_entry a) ≡ a = (λ k. record { class = f.class_is k; r1 = f.r1_is k; r2 = f.r2_is k; r3 = f.r3_is k; size = f.size_is k; serial = f.serial_is k }) in
+    let some : (pack_entry a == 0) ≡ false = ne_eqb (pack_entry a) 0 f.some in
+    let spelled : alias_spelled (pack_entry a) (alias_read (pack_entry a)) ≡ Some a = ap (alias_spelled (pack_entry a)) read ∙ rw (range, eq-eqb (pack_entry a) (pack_entry a) refl) refl in
+    rw some (ap (λ (o : Option Alias). unwrap_or (option_and_then (λ x. Some (Some x)) o) None) spelled)
 
 -- different words of a class have different places, as the kinds of words that a turn guards in a segment's fifteen
 pub segment_words_apart : (u v k l : ℕ) → k < 15 → l < 15 → 5 + 15 * u + k ≡ 5 + 15 * v + l → (u ≡ v) × (k ≡ l)
