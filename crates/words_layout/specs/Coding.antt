@@ -33,6 +33,10 @@ home_read state frame page size =
     else (if state == 2 then Resident frame (page_named page) size
     else Deleted))
 
+-- the home that the fields of a word read as
+abbrev pub home_as_read : ℕ → Home
+home_as_read word = home_read (word % 4) (word / 2 ^ 8 % 2 ^ 8) (word / 2 ^ 16 % 2 ^ 8) (word / 2 ^ 24 % 2 ^ 8)
+
 -- a page is below 32
 abbrev pub page_in_range : Option ℕ → Bool
 page_in_range None = true

@@ -15,7 +15,7 @@ pub use address::{
     seg_started_addr, seg_ticket_addr, sequencer_addr, serial_addr, started_addr, ticket_addr,
     writes_addr,
 };
-pub use coding::{Alias, Home};
+pub use coding::{Alias, Home, pack_alias, pack_home, unpack_alias, unpack_home};
 pub use limits::{
     CLASS_LIMIT, CLASS_WORDS, ENTRY_COUNT, FRAME_LIMIT, PAGE_LIMIT, SERIAL_LIMIT, SIZE_LIMIT,
 };
