@@ -4,13 +4,13 @@ ghost use Rattle.std.specs.Prelude.{◌≡◌, ◌<◌, ◌≤◌, length, IfOk}
 ghost use Rattle.host_ports.specs.Files.{counted_port};
 
 use crate::host::{Failed, Host};
-use std::fs;
-use std::io;
 use std::io::{Read, Write};
 use std::rt::Files;
+use std::{fs, io};
 
 /// Where ports 1 to 4 are pulled from, and where they are pushed to.
 const IMAGES: [&str; 4] = ["volume1.img", "volume2.img", "volume3.img", "volume4.img"];
+
 const RESULTS: [&str; 4] = ["volume1.new", "volume2.new", "volume3.new", "volume4.new"];
 
 /// The host of the program, at the edge of what is proved. It tells no bytes.

@@ -10,6 +10,6 @@ returns-clause-kept c =
     let p = c.requires.port in
     let inside : c.args.port < length c.self.inside.pipes.items = omega arith in
     subst
-      (λ (m : Memory). map (λ (h : Held). h.kept) (set c.self.inside.pipes.items c.args.port c.push.new.self) ≡ with_kept m.kept c.args.port (pushed c.args.piece.now))
-      c.self.view_is
-      (kept_set c.self.inside.pipes.items c.args.port c.index_mut.result.now c.push.new.self (pushed c.args.piece.now) inside c.index_mut.ensures.value c.push.ensures.kept)
+    (λ (m : Memory). map (λ (h : Held). h.kept) (set c.self.inside.pipes.items c.args.port c.push.new.self) ≡ with_kept m.kept c.args.port (pushed c.args.piece.now))
+    c.self.view_is
+    (kept_set c.self.inside.pipes.items c.args.port c.index_mut.result.now c.push.new.self (pushed c.args.piece.now) inside c.index_mut.ensures.value c.push.ensures.kept)

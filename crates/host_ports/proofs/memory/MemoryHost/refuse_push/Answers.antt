@@ -10,6 +10,6 @@ returns-clause-kept c =
     let p = c.requires in
     let inside : c.args.port < length c.self.inside.pipes.items = omega arith in
     subst
-      (λ (m : Memory). map (λ (h : Held). h.kept) (set c.self.inside.pipes.items c.args.port c.refuse_push.new.self) ≡ with_kept m.kept c.args.port push_refused)
-      c.self.view_is
-      (kept_set c.self.inside.pipes.items c.args.port c.index_mut.result.now c.refuse_push.new.self push_refused inside c.index_mut.ensures.value c.refuse_push.ensures.kept)
+    (λ (m : Memory). map (λ (h : Held). h.kept) (set c.self.inside.pipes.items c.args.port c.refuse_push.new.self) ≡ with_kept m.kept c.args.port push_refused)
+    c.self.view_is
+    (kept_set c.self.inside.pipes.items c.args.port c.index_mut.result.now c.refuse_push.new.self push_refused inside c.index_mut.ensures.value c.refuse_push.ensures.kept)
