@@ -29,6 +29,7 @@ ghost use Rattle.words_layout.specs.Segments.{seg};
 ghost use Rattle.class_model.specs.Access.{all_allowed};
 ghost use Rattle.class_model.specs.Content.{content};
 ghost use Rattle.class_model.specs.Run.{run};
+ghost use Rattle.class_model.specs.Valid.{IsConfig};
 ghost use Rattle.class_model.specs.Volume.{volume};
 ghost use Rattle.class_model.specs.Cases.{by, text, console, report, segment_texts, places_used};
 ghost use Rattle.class_model.specs.Cases.{prints_five, side_by_side, less_trusted, ten_tickets_each, one_frame};
@@ -170,5 +171,13 @@ pub fn a_full_console_uses_up_places()
                 codes "regs 26 0 0 0 0 0 0 0 0 0 0 0 0 0 0 0" ∷ codes "closed" ∷ [])
     }
     ensures used { places_used 0 full_console (by 0 0 0 3) ≡ 2 }
+{
+}
+
+/// These configurations are valid.
+pub fn the_cases_are_valid()
+    ensures pages { IsConfig to_the_page_and_back }
+    ensures serials { IsConfig uses_up_serials }
+    ensures labels { IsConfig side_by_side }
 {
 }
