@@ -108,16 +108,18 @@ pub fn sections_of_nobody_are_closed()
 {
 }
 
-/// Where neither label dominates the other, observing is refused by the secrecy of the reader.
-pub fn labels_side_by_side_refuse_observing()
-    ensures words { console 2 side_by_side (events 0 0 13 ++ events 1 2 7) ≡ 6 ∷ [] }
-    ensures low { low_console 2 side_by_side (events 0 0 13 ++ events 1 2 7) ≡ 6 ∷ [] }
-{
-}
-
-/// At equal secrecy, observing an object of lower integrity is refused by integrity.
-pub fn lower_integrity_refuses_observing()
-    ensures { console 0 less_trusted (events 0 0 19) ≡ 7 ∷ [] }
+/// Where neither label dominates the other, observing is refused by the secrecy of the reader. At equal secrecy, observing an
+/// object of lower integrity is refused by integrity. A process may not know a segment of a lower class for modifying nor for
+/// signalling, by secrecy, nor modify it once it observes it. Modifying an object of higher integrity is refused, and so is
+/// modifying from a ring beyond the first bracket.
+pub fn the_policy_refuses()
+    ensures labels_side_by_side { console 2 side_by_side (events 0 0 13 ++ events 1 2 7) ≡ 6 ∷ [] }
+    ensures labels_side_by_side_below { low_console 2 side_by_side (events 0 0 13 ++ events 1 2 7) ≡ 6 ∷ [] }
+    ensures lower_integrity { console 0 less_trusted (events 0 0 19) ≡ 7 ∷ [] }
+    ensures writing_down { console 1 reader_wants_to_write (events 0 0 46 ++ events 1 1 14) ≡ 8 ∷ 13 ∷ [] }
+    ensures signalling_down { console 1 signals_down (events 0 0 12 ++ events 1 1 7) ≡ 8 ∷ [] }
+    ensures higher_integrity { console 1 writes_up_in_integrity (events 0 0 12 ++ events 1 1 7) ≡ 9 ∷ [] }
+    ensures outer_ring { console 0 writes_from_outer_ring (events 0 0 18) ≡ 11 ∷ [] }
 {
 }
 
@@ -143,16 +145,12 @@ pub fn an_update_takes_effect_at_its_last_step()
 {
 }
 
-/// A look that an update crosses begins again: the reader has loaded both old words and prints the new ones.
+/// A look that an update crosses begins again: the reader has loaded both old words and prints the new ones, and its fetch takes
+/// effect behind the second update.
 pub fn a_crossed_look_begins_again()
     ensures low { report 0 writer_and_reader update_within_look ≡ writer_ended }
     ensures high { report 1 writer_and_reader update_within_look ≡ reader_ended }
-{
-}
-
-/// There the fetch takes effect behind the second update.
-pub fn a_crossed_look_takes_effect_late()
-    ensures {
+    ensures order {
         order writer_and_reader update_within_look ≡
             replicate 15 (named 0 0 0) ++ replicate 4 (named 1 1 0) ++ named 0 0 0 ∷ replicate 7 (named 1 1 0) ++
             named 0 0 0 ∷ []
@@ -160,18 +158,13 @@ pub fn a_crossed_look_takes_effect_late()
 {
 }
 
-/// The machine of whole instructions prints the same two sections from that order alone.
+/// The machine of whole instructions prints the same two sections from that order alone; and each of them where it is given only
+/// what is at or below its class, as the headline says. The machine of words prints class 0's section from the low part too.
 pub fn the_order_of_effect_gives_the_sections()
-    ensures low { whole_report 0 writer_and_reader update_within_look ≡ writer_ended }
-    ensures high { whole_report 1 writer_and_reader update_within_look ≡ reader_ended }
-{
-}
-
-/// Each section is printed too where the machine of whole instructions is given only what is at or below its class; and the
-/// machine of words prints class 0's section from the low part.
-pub fn low_parts_give_the_sections()
-    ensures low { low_report 0 writer_and_reader update_within_look ≡ writer_ended }
-    ensures high { low_report 1 writer_and_reader update_within_look ≡ reader_ended }
+    ensures whole_low { whole_report 0 writer_and_reader update_within_look ≡ writer_ended }
+    ensures whole_high { whole_report 1 writer_and_reader update_within_look ≡ reader_ended }
+    ensures headline_low { low_report 0 writer_and_reader update_within_look ≡ writer_ended }
+    ensures headline_high { low_report 1 writer_and_reader update_within_look ≡ reader_ended }
     ensures viewed { view 0 writer_and_reader update_within_look ≡ writer_ended }
 {
 }
@@ -235,9 +228,19 @@ pub fn a_look_notices_that_its_frame_changed_hands()
 {
 }
 
-/// A second swap in finds no frame in a pool of one.
-pub fn a_full_pool_refuses_to_swap_in()
-    ensures { console 0 one_frame (events 0 0 56) ≡ 22 ∷ [] }
+/// A second swap in finds no frame in a pool of one. A fourth new process finds no slot, and a script that isn't there is refused.
+/// A return without a call finds the stack empty, and the ninth call within calls finds it full. The known table is full behind
+/// sixteen places, and a fetch of no words is out of bounds. Then refusals one after the other: unknown place, bad entry, bad mode,
+/// no such class, bad brackets, bad size, entry taken, already in, no page, entry not empty, and gone.
+pub fn limits_refuse()
+    ensures frames { console 0 one_frame (events 0 0 56) ≡ 22 ∷ [] }
+    ensures slots { console 0 spawns (events 0 0 15) ≡ 9 ∷ 9 ∷ 9 ∷ 27 ∷ 28 ∷ [] }
+    ensures ring_stack { console 0 calls (events 0 0 13) ≡ 30 ∷ 29 ∷ [] }
+    ensures known_table { console 0 fills_known_table (events 0 0 200) ≡ 2 ∷ [] }
+    ensures bounds { console 0 fetches_nothing (events 0 0 3) ≡ 18 ∷ [] }
+    ensures one_by_one {
+        console 0 refusals (events 0 0 400) ≡ 1 ∷ 3 ∷ 31 ∷ 15 ∷ 16 ∷ 17 ∷ 5 ∷ 21 ∷ 23 ∷ 25 ∷ 19 ∷ []
+    }
 {
 }
 
@@ -283,24 +286,6 @@ pub fn another_script_above_shows_nothing_below()
 {
 }
 
-/// A process may not know a segment of a lower class for modifying, nor modify it once it observes it.
-pub fn a_higher_process_may_not_modify()
-    ensures { console 1 reader_wants_to_write (events 0 0 46 ++ events 1 1 14) ≡ 8 ∷ 13 ∷ [] }
-{
-}
-
-/// A fourth new process finds no slot, and a script that isn't there is refused.
-pub fn slots_run_out()
-    ensures { console 0 spawns (events 0 0 15) ≡ 9 ∷ 9 ∷ 9 ∷ 27 ∷ 28 ∷ [] }
-{
-}
-
-/// A return without a call finds the stack empty, and the ninth call within calls finds it full.
-pub fn the_ring_stack_is_empty_and_full()
-    ensures { console 0 calls (events 0 0 13) ≡ 30 ∷ 29 ∷ [] }
-{
-}
-
 /// An update of one segment doesn't make a look at another one begin again.
 pub fn an_update_elsewhere_crosses_no_look()
     ensures words { console 1 two_segments update_elsewhere_within_look ≡ 0 ∷ [] }
@@ -333,48 +318,9 @@ pub fn a_read_sums_what_its_looks_saw()
 {
 }
 
-/// Nobody signals downward: it is refused by secrecy.
-pub fn signals_do_not_go_down()
-    ensures { console 1 signals_down (events 0 0 12 ++ events 1 1 7) ≡ 8 ∷ [] }
-{
-}
-
-/// Refusals one after the other: unknown place, bad entry, bad mode, no such class, bad brackets, bad size, entry taken,
-/// already in, no page, entry not empty, and gone.
-pub fn refusals_come_one_by_one()
-    ensures {
-        console 0 refusals (events 0 0 400) ≡ 1 ∷ 3 ∷ 31 ∷ 15 ∷ 16 ∷ 17 ∷ 5 ∷ 21 ∷ 23 ∷ 25 ∷ 19 ∷ []
-    }
-{
-}
-
-/// The known table is full behind sixteen places.
-pub fn the_known_table_fills()
-    ensures { console 0 fills_known_table (events 0 0 200) ≡ 2 ∷ [] }
-{
-}
-
-/// Modifying an object of higher integrity is refused.
-pub fn writing_up_in_integrity_is_refused()
-    ensures { console 1 writes_up_in_integrity (events 0 0 12 ++ events 1 1 7) ≡ 9 ∷ [] }
-{
-}
-
-/// Modifying from a ring beyond the first bracket is refused.
-pub fn writing_from_an_outer_ring_is_refused()
-    ensures { console 0 writes_from_outer_ring (events 0 0 18) ≡ 11 ∷ [] }
-{
-}
-
 /// A process that polls gives way to the next slot, whose process frees it.
 pub fn polling_gives_way()
     ensures { console 0 polls_and_frees (events 0 0 12) ≡ 7 ∷ 1 ∷ [] }
-{
-}
-
-/// A fetch of no words is out of bounds.
-pub fn an_empty_fetch_is_out_of_bounds()
-    ensures { console 0 fetches_nothing (events 0 0 3) ≡ 18 ∷ [] }
 {
 }
 
