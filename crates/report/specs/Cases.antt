@@ -10,7 +10,7 @@ use Rattle.script_lang.specs.declared.instr.Instr.{Instr}
 use Rattle.script_lang.specs.declared.instr.Instr.TheVariants as I
 use Rattle.class_model.specs.Config.{Config, low_config}
 use Rattle.class_model.specs.Process.{ProcName}
-use Rattle.class_model.specs.Report.{segment_text}
+use Rattle.class_model.specs.Report.{Seen, segment_text}
 use Rattle.class_model.specs.Run.{history, opening}
 use Rattle.class_model.specs.Run.{run as whole_run}
 use Rattle.class_model.specs.Section.{section as whole_section, seen as whole_seen}
@@ -37,6 +37,15 @@ report c k events = section c (machine k events)
 unfoldable pub segment_texts : ℕ → Config → List Event → List (List ℕ)
 unfolding digits
 segment_texts c k events = map segment_text (seen c (machine k events)).segments
+
+-- the console lines of a class and the lines of its segments
+abbrev pub lines_and_texts : Seen → List ℕ × List (List ℕ)
+lines_and_texts s = (s.lines, map segment_text s.segments)
+
+-- both after these events, for a run that is long to compute
+unfoldable pub console_and_segments : ℕ → Config → List Event → List ℕ × List (List ℕ)
+unfolding digits
+console_and_segments c k events = lines_and_texts (seen c (machine k events))
 
 -- the console places of a class that are used up
 unfoldable pub places_used : ℕ → Config → List Event → ℕ

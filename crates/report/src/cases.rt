@@ -40,13 +40,11 @@
         crate::specs::Cases::writes_from_outer_ring,
         crate::specs::Cases::polls_and_frees,
         crate::specs::Cases::fetches_nothing,
-        crate::specs::Cases::deleted_texts,
         class_model::specs::Cases::prints_five,
         class_model::specs::Cases::side_by_side,
         class_model::specs::Cases::less_trusted,
         class_model::specs::Cases::ten_tickets_each,
         class_model::specs::Cases::one_frame,
-        class_model::specs::Cases::uses_up_serials,
         class_model::specs::Cases::spawns,
         class_model::specs::Cases::calls,
         class_model::specs::Cases::to_the_page_and_back,
@@ -62,21 +60,20 @@ ghost use Rattle.words_layout.specs.Segments.{seg};
 ghost use Rattle.class_model.specs.Valid.{IsConfig};
 ghost use Rattle.schedule.specs.Schedule.{scheduled};
 ghost use Rattle.config_text.specs.declared.config.Item.TheVariants.{Events, Mix, Sweep};
-ghost use Rattle.class_model.specs.Cases.{text, by, low, high, pool, script, gate, process, alone, prints_five};
-ghost use Rattle.class_model.specs.Cases.{side_by_side, less_trusted, ten_tickets_each, one_frame};
-ghost use Rattle.class_model.specs.Cases.{uses_up_serials, spawns, calls, to_the_page_and_back, deletes_resident};
-ghost use Rattle.class_model.specs.Cases.{signals_and_forgets, full_console};
-ghost use Rattle.report.specs.Cases.{console, report, segment_texts, places_used, order, whole_report};
-ghost use Rattle.report.specs.Cases.{whole_console, low_report, low_console, view, looks_saw, events, named};
-ghost use Rattle.report.specs.Cases.{each_of_twenty_once, shape, writer_and_reader, update_within_look};
-ghost use Rattle.report.specs.Cases.{look_before_update, update_left_unfinished, writer_ended, reader_ended};
-ghost use Rattle.report.specs.Cases.{writer_and_other, nobody, rings, swaps_under_a_reader};
-ghost use Rattle.report.specs.Cases.{swap_within_look, withdraws, withdrawn_in_use, awaits};
-ghost use Rattle.report.specs.Cases.{reader_wants_to_write, two_segments, update_elsewhere_within_look};
-ghost use Rattle.report.specs.Cases.{signals_and_awaits, signals_and_reads, signals_within_read};
-ghost use Rattle.report.specs.Cases.{signals_down, refusals, fills_known_table, writes_up_in_integrity};
-ghost use Rattle.report.specs.Cases.{writes_from_outer_ring, polls_and_frees, fetches_nothing};
-ghost use Rattle.report.specs.Cases.{deleted_texts};
+ghost use Rattle.class_model.specs.Cases.{text, prints_five, side_by_side, less_trusted, ten_tickets_each};
+ghost use Rattle.class_model.specs.Cases.{one_frame, uses_up_serials, spawns, calls, to_the_page_and_back};
+ghost use Rattle.class_model.specs.Cases.{deletes_resident, signals_and_forgets, full_console};
+ghost use Rattle.report.specs.Cases.{console, report, segment_texts, console_and_segments, places_used};
+ghost use Rattle.report.specs.Cases.{order, whole_report, whole_console, low_report, low_console, view};
+ghost use Rattle.report.specs.Cases.{looks_saw, events, named, each_of_twenty_once, shape};
+ghost use Rattle.report.specs.Cases.{writer_and_reader, update_within_look, look_before_update};
+ghost use Rattle.report.specs.Cases.{update_left_unfinished, writer_ended, reader_ended, writer_and_other};
+ghost use Rattle.report.specs.Cases.{nobody, rings, swaps_under_a_reader, swap_within_look, withdraws};
+ghost use Rattle.report.specs.Cases.{withdrawn_in_use, awaits, reader_wants_to_write, two_segments};
+ghost use Rattle.report.specs.Cases.{update_elsewhere_within_look, signals_and_awaits, signals_and_reads};
+ghost use Rattle.report.specs.Cases.{signals_within_read, signals_down, refusals, fills_known_table};
+ghost use Rattle.report.specs.Cases.{writes_up_in_integrity, writes_from_outer_ring, polls_and_frees};
+ghost use Rattle.report.specs.Cases.{fetches_nothing, deleted_texts};
 
 /// A value is printed, and each instruction takes effect at its one step.
 pub fn a_value_is_printed()
@@ -258,9 +255,11 @@ pub fn a_withdrawn_segment_lives_on_above()
 }
 
 /// After 64 serials no segment is made under a class any more; all 64 stay told of as deleted.
+#[tactic(auto, using(crate::proofs::LongRuns::serials))]
 pub fn serials_run_out()
-    ensures lines { console 1 uses_up_serials (events 0 0 13 ++ events 1 1 4000) ≡ 14 ∷ 24 ∷ 4 ∷ [] }
-    ensures segments { segment_texts 1 uses_up_serials (events 0 0 13 ++ events 1 1 4000) ≡ deleted_texts }
+    ensures {
+        console_and_segments 1 uses_up_serials (events 0 0 13 ++ events 1 1 2074) ≡ (14 ∷ 24 ∷ 4 ∷ [], deleted_texts)
+    }
 {
 }
 
