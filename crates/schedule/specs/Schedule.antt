@@ -3,6 +3,7 @@ use Rattle.std.specs.Prelude.{ℕ, zero, suc, ◌+◌, ◌*◌, ◌/◌, ◌%◌
 use Rattle.std.specs.List.{flat_map}
 use Rattle.lists.specs.Lists.{below}
 use Rattle.words_layout.specs.declared.op.Event.{Event}
+use Rattle.config_text.specs.declared.config.Config.{Config}
 use Rattle.config_text.specs.declared.config.Item.{Item}
 use Rattle.config_text.specs.declared.config.Item.TheVariants.{Events, Mix, Sweep}
 
@@ -43,3 +44,11 @@ scheduled shape place [] = []
 scheduled shape place (Events p c n ∷ items) = replicate n (event p c) ++ scheduled shape place items
 scheduled shape place (Mix x n ∷ items) = mixed shape.processors shape.classes x n ++ scheduled shape place items
 scheduled shape place (Sweep n ∷ items) = swept shape place n ++ scheduled shape (place + n * shape.quantum) items
+
+-- the header of a configuration
+abbrev pub shape_of : Config → Shape
+shape_of k = record { processors = k.processors; classes = length k.table; cycle = k.cycle; quantum = k.quantum }
+
+-- Sched(K): the events of a configuration's schedule
+abbrev pub events_of : Config → List Event
+events_of k = scheduled (shape_of k) 0 k.schedule
