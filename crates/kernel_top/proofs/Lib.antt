@@ -1,1 +1,2 @@
 pub mod ThinParts
+pub mod ThinRun

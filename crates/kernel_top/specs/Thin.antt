@@ -41,7 +41,7 @@ on_first events = list_all (λ (e : Event). e.processor == 0) events
 -- the number of events of a class
 abbrev pub count_of : ℕ → List Event → ℕ
 count_of c [] = 0
-count_of c (e ∷ events) = let rest = count_of c events in if e.class == c then suc rest else rest
+count_of c (e ∷ events) = let rest = count_of c events in if c == e.class then suc rest else rest
 
 -- whether some process of a class is live, on any of the four processors
 abbrev pub class_is_live : ℕ → Machine → Bool
