@@ -1,2 +1,3 @@
+pub mod ThinLists
 pub mod ThinParts
 pub mod ThinRun
