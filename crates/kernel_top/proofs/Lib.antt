@@ -1,3 +1,4 @@
 pub mod ThinLists
 pub mod ThinParts
 pub mod ThinRun
+pub mod ThinOpening
