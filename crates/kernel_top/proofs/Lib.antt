@@ -2,3 +2,4 @@ pub mod ThinLists
 pub mod ThinParts
 pub mod ThinRun
 pub mod ThinOpening
+pub mod ThinSections
