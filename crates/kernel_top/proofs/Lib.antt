@@ -3,3 +3,4 @@ pub mod ThinParts
 pub mod ThinRun
 pub mod ThinOpening
 pub mod ThinSections
+pub mod Headline

@@ -1,8 +1,8 @@
 -- Facts on lists for the laws of thin configurations.
-use Rattle.std.proofs.Common.{ℕ, zero, suc, ◌+◌, ◌<◌, ◌≤◌, ◌≢◌, Bool, true, false, not, List, [], ◌∷◌, ◌≡◌, refl, sym, ap, ◌∙◌, Option, Some, None, arith, length, map}
+use Rattle.std.proofs.Common.{ℕ, zero, suc, ◌+◌, ◌<◌, ◌≤◌, ◌≢◌, Bool, true, false, List, [], ◌∷◌, ◌≡◌, refl, sym, ap, ◌∙◌, Option, Some, arith, length, map}
 use Rattle.std.proofs.lemmas.Bool.{eqb-true, eq-eqb, false_from_ne_true, and_parts, and_from}
-use Rattle.std.specs.Prelude.{◌==◌, ◌&&◌, ◌||◌, if◌then◌else◌, slice_get, slice_index_or, sum}
-use Rattle.std.specs.List.{enumerate_from, filter, filter_map, find, fold, list_all, list_any, cons_option}
+use Rattle.std.specs.Prelude.{◌==◌, if◌then◌else◌, slice_get, slice_index_or, sum}
+use Rattle.std.specs.List.{enumerate_from, filter, filter_map, find, fold, list_all, cons_option}
 use Rattle.std.specs.Option.{option_map}
 use Rattle.lists.specs.Lists.{numbers_from}
 

@@ -1,24 +1,24 @@
 -- The opening of a thin configuration, and of its part at or below a class, in both machines.
-use Rattle.std.proofs.Common.{ℕ, zero, suc, ◌+◌, ◌≤◌, Bool, true, false, List, [], ◌∷◌, ◌≡◌, refl, sym, ap, subst, ◌∙◌, Option, Some, None, arith, length, map, ◌⊎◌, inl, inr}
-use Rattle.std.proofs.lemmas.Bool.{eqb-true, eq-eqb, and_parts, leb-true, false_from_ne_true}
+use Rattle.std.proofs.Common.{ℕ, ◌≤◌, Bool, true, false, List, [], ◌∷◌, ◌≡◌, refl, sym, ap, subst, ◌∙◌, Option, Some, None, arith, length, map, ◌⊎◌, inl, inr}
+use Rattle.std.proofs.lemmas.Bool.{eqb-true, eq-eqb, and_parts, leb-true}
 use Rattle.std.proofs.lemmas.List.Sums.{length-filter}
-use Rattle.std.specs.Prelude.{◌==◌, ◌&&◌, if◌then◌else◌, slice_get, slice_index_or, count_by, nat_le, IsTrue}
-use Rattle.std.specs.List.{filter, find, list_all, filter_map}
+use Rattle.std.specs.Prelude.{◌==◌, ◌&&◌, if◌then◌else◌, slice_get, slice_index_or, count_by, nat_le}
+use Rattle.std.specs.List.{filter, list_all}
 use Rattle.std.specs.Option.{option_map}
 use Rattle.lists.specs.Lists.{below}
 use Rattle.labels.specs.Label.{at_or_below}
 use Rattle.script_lang.specs.declared.instr.Instr.TheVariants.{Halt}
-use Rattle.class_model.specs.Config.{Config, Shared, Script, ProcessLine, shared_of, low_config, kept_below, instr_at, program_of}
+use Rattle.class_model.specs.Config.{Config, Script, ProcessLine, low_config, kept_below, program_of}
 use Rattle.class_model.specs.Process.{Process, new_process}
 use Rattle.class_model.specs.Run.{opening_slots}
 use Rattle.class_model.specs.Run.{opening as opening_state}
 use Rattle.class_model.specs.Valid.{at_place}
 use Rattle.machine.specs.Machine.{VirtualProcessor}
 use Rattle.machine.specs.Opening.{opening, opening_vp, opening_words, at_rest}
-use Rattle.kernel_top.specs.Alone.{ClassRun, class_opening}
+use Rattle.kernel_top.specs.Alone.{class_opening}
 use Rattle.kernel_top.specs.Thin.{is_simple, simple_script, thin_line, IsThin}
 use Rattle.kernel_top.proofs.ThinLists.{differ, filter_none, filter_same, list_all_filter, list_all_map, list_all_more, list_all_at, length_filter_filter, find_first}
-use Rattle.kernel_top.proofs.ThinParts.{slots_of, own_vp, blank_vp, class_part, class_state, RunFits}
+use Rattle.kernel_top.proofs.ThinParts.{slots_of, own_vp, blank_vp, class_state}
 use Rattle.kernel_top.proofs.ThinRun.{AllSimple, Together}
 
 abbrev on_zero : ProcessLine → Bool

@@ -1,25 +1,24 @@
 -- The part of a class of each machine, for a class that runs by itself, and what a step does to it.
-use Rattle.std.proofs.Common.{ℕ, zero, suc, ◌+◌, ◌%◌, ◌^◌, ◌≤◌, Bool, true, false, List, [], ◌∷◌, ◌++◌, ◌≡◌, refl, sym, ap, ◌∙◌, Option, Some, None, arith, length}
+use Rattle.std.proofs.Common.{ℕ, suc, ◌+◌, ◌%◌, ◌^◌, ◌≤◌, Bool, true, false, List, [], ◌∷◌, ◌++◌, ◌≡◌, refl, sym, ap, ◌∙◌, Option, Some, None, arith, length}
 use Rattle.std.specs.Prelude.{◌==◌, if◌then◌else◌, nat_lt, slice_index_or, slice_set}
 use Rattle.std.specs.List.{enumerate_from}
 use Rattle.std.specs.Option.{option_map}
 use Rattle.lists.specs.Lists.{put}
-use Rattle.words_layout.specs.Words.{Words, WordOp, words_after, answer_to, Places}
+use Rattle.words_layout.specs.Words.{Words, WordOp, words_after, answer_to}
 use Rattle.script_lang.specs.declared.instr.Instr.{Instr}
 use Rattle.script_lang.specs.declared.instr.Instr.TheVariants as I
 use Rattle.policy.specs.declared.rule.Rule.TheVariants.{ConsoleFull}
 use Rattle.class_model.specs.Config.{Config, Shared}
 use Rattle.class_model.specs.Process.{Process, ProcName, settled, answered, refused}
-use Rattle.class_model.specs.Plan.{Plan, Own, Begin, Ask, Out, plan, plan_of}
+use Rattle.class_model.specs.Plan.{Plan, Own, Ask, Out, plan, plan_of}
 use Rattle.class_model.specs.Run.{opening_cell, opening_serial}
 use Rattle.class_model.specs.State.{State, Part, process_at, with_process, with_part}
-use Rattle.class_model.specs.Step.{Deed, deed_of, deed_by, out_effect, done}
+use Rattle.class_model.specs.Step.{deed_of, deed_by, out_effect, done}
 use Rattle.class_model.specs.Step.{step as state_step}
-use Rattle.turns.specs.Doing.{Fresh}
-use Rattle.process.specs.Running.{Running, Absorbed, absorb, next_op}
+use Rattle.process.specs.Running.{Running, absorb, next_op}
 use Rattle.machine.specs.Machine.{ClassPart, VirtualProcessor, chosen, free_slot, vp_absorbed, vp_chosen, effect_chosen, effect_slot, part_step, part_effect}
 use Rattle.machine.specs.Opening.{opening_words, at_rest}
-use Rattle.kernel_top.specs.Alone.{ClassRun, planned, printed, class_step}
+use Rattle.kernel_top.specs.Alone.{ClassRun, printed}
 use Rattle.kernel_top.specs.Thin.{is_simple}
 
 -- the slots of a class's processors: its process stands first on processor 0, and no other slot is taken

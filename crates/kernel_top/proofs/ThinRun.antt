@@ -1,5 +1,5 @@
 -- Both machines over a list of events, where each class runs by itself.
-use Rattle.std.proofs.Common.{ℕ, zero, suc, ◌+◌, ◌-◌, ◌%◌, ◌^◌, ◌<◌, ◌≤◌, Bool, true, false, List, [], ◌∷◌, ◌++◌, ◌≡◌, refl, sym, ap, subst, ◌∙◌, Option, Some, None, arith, length, map}
+use Rattle.std.proofs.Common.{ℕ, suc, ◌+◌, ◌%◌, ◌^◌, ◌<◌, ◌≤◌, Bool, true, false, List, [], ◌∷◌, ◌++◌, ◌≡◌, refl, sym, ap, subst, ◌∙◌, Option, Some, None, arith, length, map}
 use Rattle.std.proofs.lemmas.Bool.{eqb-true, ltb-true, ltb-false, and_parts}
 use Rattle.std.proofs.lemmas.List.{length-append}
 use Rattle.std.specs.Prelude.{◌==◌, if◌then◌else◌, nat_lt}
@@ -13,7 +13,7 @@ use Rattle.class_model.specs.State.{State, Part, with_part}
 use Rattle.machine.specs.Machine.{Machine, ClassPart, chosen, words_of, part_step, part_effect, effect_at, step, run, order_of_effect}
 use Rattle.kernel_top.specs.Alone.{ClassRun, planned, printed, class_step, class_after}
 use Rattle.kernel_top.specs.Thin.{is_simple, on_first, count_of}
-use Rattle.kernel_top.proofs.ThinParts.{own_vp, class_part, class_state, IsSimplePlan, simple_plan, part_taken, part_step-taken, effect_taken, part_effect-taken, chosen_none, chosen_some, RunFits, own_taken, out_taken, own_effect, out_effects, name_of, own_state, out_state}
+use Rattle.kernel_top.proofs.ThinParts.{own_vp, class_part, class_state, IsSimplePlan, simple_plan, part_taken, part_step-taken, effect_taken, part_effect-taken, chosen_none, chosen_some, RunFits, own_taken, out_taken, own_effect, out_effects, own_state, out_state}
 
 -- an event of a class on processor 0
 abbrev pub first_event : ℕ → Event

@@ -1,7 +1,7 @@
 -- The section of a class that runs by itself, read off each machine: no segment is touched.
-use Rattle.std.proofs.Common.{ℕ, zero, suc, ◌+◌, ◌%◌, ◌^◌, ◌≤◌, Bool, true, false, not, List, [], ◌∷◌, ◌++◌, ◌≡◌, refl, sym, ap, subst, ◌∙◌, Option, Some, None, arith, length, map}
+use Rattle.std.proofs.Common.{ℕ, ◌%◌, ◌^◌, Bool, true, false, not, List, [], ◌≡◌, refl, ap, ◌∙◌, Option, Some, None, map}
 use Rattle.std.proofs.lemmas.List.{append-nil}
-use Rattle.std.specs.Prelude.{◌||◌, if◌then◌else◌, nat_lt, sum, is_some}
+use Rattle.std.specs.Prelude.{◌||◌, nat_lt, is_some}
 use Rattle.std.specs.List.{filter, list_any, filter_map}
 use Rattle.lists.specs.Lists.{below}
 use Rattle.labels.specs.Label.{class_at}
@@ -11,18 +11,18 @@ use Rattle.words_layout.specs.declared.segment.SegId.{SegId}
 use Rattle.policy.specs.Outcome.{components}
 use Rattle.class_model.specs.Config.{Config, Shared, SegRecord, shared_of, classes}
 use Rattle.class_model.specs.Process.{Process}
-use Rattle.class_model.specs.Report.{Seen, SeenProcess, SeenSegment, section_text}
+use Rattle.class_model.specs.Report.{Seen, SeenProcess, SeenSegment}
 use Rattle.class_model.specs.Run.{opening_cell}
 use Rattle.class_model.specs.Section.{seen, seen_segment, seen_segments, seen_processes, is_touched}
-use Rattle.class_model.specs.State.{State, Part, Cell, cell_at, eventcount, identities}
-use Rattle.machine.specs.Machine.{Machine, ClassPart, VirtualProcessor, words_of, is_live}
+use Rattle.class_model.specs.State.{State, Part, cell_at, eventcount, identities}
+use Rattle.machine.specs.Machine.{Machine, ClassPart, words_of, is_live}
 use Rattle.machine.specs.Reading.{printed, processes_of}
 use Rattle.report.specs.Reported.{word_count, word_segment, is_never, entries_of}
 use Rattle.report.specs.Reported.{seen as seen_words, is_touched as is_touched_word}
 use Rattle.kernel_top.specs.Alone.{ClassRun, class_seen, seen_process}
 use Rattle.kernel_top.specs.Thin.{class_is_live, run_is_live, process_is_live}
 use Rattle.kernel_top.proofs.ThinLists.{filter_none, sum_zeros, read_back}
-use Rattle.kernel_top.proofs.ThinParts.{slots_of, class_part, class_state, own_words, RunFits}
+use Rattle.kernel_top.proofs.ThinParts.{slots_of, class_part, own_words}
 use Rattle.kernel_top.proofs.ThinRun.{Together}
 
 -- the processes that are seen of a class

@@ -1,6 +1,6 @@
 -- Thin configurations, whose classes run by themselves: one processor, at most one process for a class, no record of a volume, and
 -- scripts of set, out and halt alone. The law of the top call is stated for them.
-use Rattle.std.specs.Prelude.{ℕ, zero, suc, Bool, true, false, ◌&&◌, List, [], ◌∷◌, ◌==◌, if◌then◌else◌, nat_le, count_by, IsTrue, Option, Some, None, ◌≡◌}
+use Rattle.std.specs.Prelude.{ℕ, suc, Bool, true, false, ◌&&◌, List, [], ◌∷◌, ◌==◌, if◌then◌else◌, nat_le, count_by, IsTrue, Option, Some, None, ◌≡◌}
 use Rattle.std.specs.List.{list_all, list_any}
 use Rattle.lists.specs.Lists.{below}
 use Rattle.words_layout.specs.declared.op.Event.{Event}
