@@ -1,14 +1,14 @@
 -- The fault that is found is the first one, and the only one that is the first.
-use Rattle.std.proofs.Common.{◌≡◌, ℕ, suc, ◌+◌, ◌-◌, ◌<◌, ◌≤◌, Bool, true, false, cond, not, ltb, leb, ◌&&◌, List, [], ◌∷◌, length, get_or, position, slice_get, Option, Some, None, IsTrue, nat_le, refl, sym, ap, subst, ◌∙◌, inl, inr, ◌⊎◌, arith}
-use Rattle.std.specs.List.{list_all, position_or_len, AllPass}
+use Rattle.std.proofs.Common.{◌≡◌, ℕ, suc, ◌+◌, ◌-◌, ◌<◌, ◌≤◌, Bool, true, false, cond, not, ◌&&◌, List, [], ◌∷◌, length, get_or, position, slice_get, Option, Some, None, IsTrue, refl, sym, ap, ◌∙◌, inl, inr, ◌⊎◌, arith}
+use Rattle.std.specs.List.{list_all, position_or_len}
 use Rattle.std.specs.Option.{option_map_or}
-use Rattle.std.proofs.lemmas.Bool.{cases_lt, cases_order, cases_Bool, lt-ltb, le-ltb, ltb-false, le-leb, not_from_true, both_ways, not-true}
-use Rattle.std.proofs.lemmas.Option.{slice_get-get_or, slice_get_cases, cond_some}
+use Rattle.std.proofs.lemmas.Bool.{cases_lt, cases_order, lt-ltb, le-ltb, le-leb, both_ways, not-true}
+use Rattle.std.proofs.lemmas.Option.{slice_get-get_or, slice_get_cases}
 use Rattle.std.proofs.lemmas.List.Quantifiers.{position-Some}
 use Rattle.std.proofs.lemmas.List.Sums.{AllPass-from_list_all}
 use Rattle.script_lang.specs.declared.instr.Instr.{Instr}
 use Rattle.script_lang.specs.declared.instr.Instr.TheVariants.{Halt}
-use Rattle.script_lang.specs.Program.{target_ok, is_last, program_ok}
+use Rattle.script_lang.specs.Program.{target_ok, program_ok}
 use Rattle.script_lang.specs.Fault.{has_bad_target, ends_well, IsLeastBadTarget, IsBadEnd, IsFirstFault, or_bad_end, first_fault}
 
 abbrev is_bad : ℕ → Instr → Bool

@@ -32,9 +32,18 @@ fn programs_and_faults(rt: HostRuntime) -> Result<(), Fail> {
     let cases = [
         (long, Some(256)),
         (Vec::new(alloc), Some(0)),
-        ([Instr::Set(reg, 5), Instr::Out(reg)].to_vec(alloc)?, Some(1)),
-        ([Instr::Jump(3), Instr::JumpZ(reg, 3), Instr::Out(reg)].to_vec(alloc)?, Some(0)),
-        ([Instr::Halt, Instr::JumpL(reg, reg, 2)].to_vec(alloc)?, Some(1)),
+        (
+            [Instr::Set(reg, 5), Instr::Out(reg)].to_vec(alloc)?,
+            Some(1),
+        ),
+        (
+            [Instr::Jump(3), Instr::JumpZ(reg, 3), Instr::Out(reg)].to_vec(alloc)?,
+            Some(0),
+        ),
+        (
+            [Instr::Halt, Instr::JumpL(reg, reg, 2)].to_vec(alloc)?,
+            Some(1),
+        ),
         ([Instr::JumpZ(reg, 1), Instr::Jump(0)].to_vec(alloc)?, None),
         ([Instr::Halt].to_vec(alloc)?, None),
     ];

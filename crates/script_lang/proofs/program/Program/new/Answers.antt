@@ -12,7 +12,8 @@ returns-in-Some-clause-fault c =
     let found : first_fault c.args.list.items ≡ Some c.in-Some.at = ap first_fault (sym c.as_slice.ensures.value) ∙ sym c.find_fault.ensures ∙ c.in-Some.is in
     λ at. (
       λ e. let same : c.in-Some.at ≡ at = cc in fault_is c.args.list.items at (found ∙ ap Some same),
-      λ is. let only : first_fault c.args.list.items ≡ Some at = fault_only c.args.list.items at is in let same : c.in-Some.at ≡ at = cc in rw same refl)
+      λ is. let only : first_fault c.args.list.items ≡ Some at = fault_only c.args.list.items at is in let same : c.in-Some.at ≡ at = cc in rw same refl,
+    )
 
 pub returns-in-None-clause-program : goal.returns-in-None-clause-program
 returns-in-None-clause-program c =
