@@ -152,17 +152,24 @@ module _ (k : Config) (c : ℕ) where
         get_or-map (kept_below (λ (x : Script). x.class) (λ x. at_or_below k.table x c)) k.scripts l.script None ∙ at_script (slice_index_or k.scripts l.script None) uses
 
 -- the section of a class in the machine of whole instructions, given only what is at or below the class and the order of effect there
-pub headline_thin : (k : Config) → IsThin k → IsConfig k → (events : List Event) → on_first events ≡ true → length events < 2 ^ 63 → (c : ℕ) →
+pub low_section_thin : (k : Config) → IsThin k → list_all (process_ok k) k.processes ≡ true → (events : List Event) → on_first events ≡ true →
+  length events < 2 ^ 63 → (c : ℕ) →
   section c (run (low_config c k) (effects (low_config c k) (low_events k.table c events))) ≡
   section_text (class_seen k c (class_after (shared_of k) c (count_of c events) (class_opening k c)))
-headline_thin k thin valid events first few c =
+low_section_thin k thin valid events first few c =
   section_is (low_config c k) (low_facts k c (thin_facts k thin)) (low_events k.table c events)
     (list_all_filter (λ (e : Event). e.processor == 0) (λ (e : Event). at_or_below k.table e.class c) events first)
     (let fewer = length_filter (λ (e : Event). at_or_below k.table e.class c) events in omega (arith, fewer)) c
   ∙ ap (λ x. section_text (class_seen k c (class_after (shared_of (low_config c k)) c (count_of c (low_events k.table c events)) x))) (opening_low k c)
   ∙ ap (λ n. section_text (class_seen k c (class_after (shared_of (low_config c k)) c n (class_opening k c)))) (count_low k c events)
   ∙ ap (λ x. section_text (class_seen k c x))
-      (after_low k c (all_simple k (thin_facts k thin)) (count_of c events) (class_opening k c) (opening_keeps k c valid.processes))
+      (after_low k c (all_simple k (thin_facts k thin)) (count_of c events) (class_opening k c) (opening_keeps k c valid))
+
+-- the same of a valid configuration
+pub headline_thin : (k : Config) → IsThin k → IsConfig k → (events : List Event) → on_first events ≡ true → length events < 2 ^ 63 → (c : ℕ) →
+  section c (run (low_config c k) (effects (low_config c k) (low_events k.table c events))) ≡
+  section_text (class_seen k c (class_after (shared_of k) c (count_of c events) (class_opening k c)))
+headline_thin k thin valid events first few c = low_section_thin k thin valid.processes events first few c
 
 -- the report of the machine of words
 pub report_thin : (k : Config) → IsThin k → (events : List Event) → on_first events ≡ true → length events < 2 ^ 63 → (c : ℕ) →
