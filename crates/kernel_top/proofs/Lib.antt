@@ -4,3 +4,4 @@ pub mod ThinRun
 pub mod ThinOpening
 pub mod ThinSections
 pub mod Headline
+pub mod ThinText
