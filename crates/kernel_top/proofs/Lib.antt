@@ -5,3 +5,5 @@ pub mod ThinOpening
 pub mod ThinSections
 pub mod Headline
 pub mod ThinText
+pub mod ThinValid
+pub mod SmallText

@@ -34,7 +34,7 @@ use Rattle.kernel_top.proofs.ThinLists.{list_all_more}
 use Rattle.kernel_top.proofs.Headline.{low_section_thin, live_thin}
 
 -- each passes, read off another list
-list_all_to : {X Y : Type 0} (p : X → Bool) (q : Y → Bool) (f : X → Y) → ((x : X) → p x ≡ true → q (f x) ≡ true) → (xs : List X) → list_all p xs ≡ true → list_all q (map f xs) ≡ true
+pub list_all_to : {X Y : Type 0} (p : X → Bool) (q : Y → Bool) (f : X → Y) → ((x : X) → p x ≡ true → q (f x) ≡ true) → (xs : List X) → list_all p xs ≡ true → list_all q (map f xs) ≡ true
 list_all_to p q f each [] h = refl
 list_all_to p q f each (x ∷ xs) h =
   let a : (p x ≡ true) × (list_all p xs ≡ true) = and_parts _ _ h in and_from _ _ (each x a.0) (list_all_to p q f each xs a.1)
