@@ -1,21 +1,19 @@
 -- What is answered to a text is right, and nothing else is.
-use Rattle.std.proofs.Common.{◌≡◌, ℕ, zero, suc, ◌+◌, ◌*◌, ◌%◌, ◌^◌, ◌<◌, ◌≤◌, leb, List, [], ◌∷◌, Option, Some, None, Result, Ok, Err, min, ◌-◌, refl, sym, ap, subst, ◌∙◌, arith, inl, inr, ◌⊎◌}
+use Rattle.std.proofs.Common.{◌≡◌, ℕ, zero, suc, ◌+◌, ◌*◌, ◌%◌, ◌^◌, ◌≤◌, leb, List, [], ◌∷◌, Option, Some, None, Result, Ok, Err, min, ◌-◌, refl, sym, ap, subst, ◌∙◌, arith, inl, inr, ◌⊎◌}
 use Rattle.std.specs.Prelude.{Contains, ◌↔◌, bit_or}
 use Rattle.std.specs.Option.{option_map}
 use Rattle.std.specs.Int.{w32, bit_at}
-use Rattle.std.proofs.lemmas.Nat.Bits.{bit_at_set_same, bit_at_set_other, bit_at-zero, same_from_bits, bit_at-lt}
-use Rattle.std.proofs.Math.Bridge.{le_prop}
+use Rattle.std.proofs.lemmas.Nat.Bits.{bit_at_set_same, bit_at_set_other, bit_at-zero}
 use Rattle.std.proofs.lemmas.Bool.{cases_lt, lt-ltb, le-ltb, lt-leb, le-leb}
 use Rattle.std.proofs.lemmas.Bool.Decides.{eqb_tells}
-use Rattle.std.proofs.lemmas.Option.{none-some, some_pair_parts}
+use Rattle.std.proofs.lemmas.Option.{none-some}
 use Rattle.labels.proofs.Categories.{and_false}
 use Rattle.labels.specs.Label.{Label}
 use Rattle.labels.specs.declared.fault.LabelFault.{LabelFault}
 use Rattle.labels.specs.declared.fault.LabelFault.TheVariants.{Spelling, Level, Category}
-use Rattle.labels.specs.declared.half.Half.{Half}
 use Rattle.labels.specs.declared.half.Rising.{Rising}
 use Rattle.labels.specs.Order.{HasCategory}
-use Rattle.labels.specs.Text.{Parts, HasForm, HasLevels, AreCategories, IsSetOf, IsLabelOf, IsPartsAnswer, IsAnswer}
+use Rattle.labels.specs.Text.{Parts, HasForm, HasLevels, AreCategories, IsSetOf, IsPartsAnswer, IsAnswer}
 use Rattle.labels.specs.Reading.{start, with_category, rising, seen_half, seen_form, form_of, parts_of, label_with, label_of_halves, label_of_form, read_label}
 use Rattle.labels.proofs.Words.{same_bits}
 use Rattle.labels.proofs.Form.{some_is, form_sound, form_complete}

@@ -1,6 +1,6 @@
 -- A label has one text.
-use Rattle.std.proofs.Common.{◌≡◌, ℕ, zero, suc, ◌+◌, ◌^◌, ◌<◌, ◌≤◌, true, false, cond, eqb, List, [], ◌∷◌, ◌++◌, length, refl, sym, ap, subst, ◌∙◌, arith, inl, inr}
-use Rattle.std.specs.Prelude.{Contains, ◌↔◌}
+use Rattle.std.proofs.Common.{◌≡◌, ℕ, ◌+◌, ◌^◌, ◌<◌, ◌≤◌, true, false, cond, eqb, List, [], ◌∷◌, ◌++◌, refl, sym, ap, subst, ◌∙◌, arith, inl, inr}
+use Rattle.std.specs.Prelude.{Contains}
 use Rattle.std.specs.Fmt.{decimal}
 use Rattle.std.specs.List.{slice_split, onto_first, AllZip, AllByRecursion}
 use Rattle.std.proofs.lemmas.Bool.{eqb-true}
@@ -8,10 +8,8 @@ use Rattle.std.proofs.lemmas.Fmt.{decimal-digits_value}
 use Rattle.std.proofs.lemmas.Str.Parse.{numerals_by_value, tells_digits}
 use Rattle.text_lines.specs.Number.{IsNumber}
 use Rattle.labels.specs.Label.{Label}
-use Rattle.labels.specs.Order.{HasCategory, IsLabel}
-use Rattle.labels.specs.Text.{pieces, AreNumbers, IsHalf, AreCategories, IsSetOf, Spells, IsAnswer}
+use Rattle.labels.specs.Text.{AreNumbers, IsHalf, AreCategories, IsSetOf, Spells}
 use Rattle.labels.specs.Spelling.{listed, joined, half_text, label_text}
-use Rattle.labels.specs.Reading.{read_label}
 use Rattle.labels.proofs.Printed.{IsListed, listed_is, listed_rises, text_is}
 use Rattle.labels.proofs.Answer.{read_answer, Contains-cons_cases, Contains-here, Contains-there}
 

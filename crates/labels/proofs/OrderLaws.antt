@@ -1,5 +1,5 @@
 -- Dominating is a partial order, and its tests are those of the relation.
-use Rattle.std.proofs.Common.{◌≡◌, ℕ, true, Bool, ◌≤◌, ◌&&◌, arith}
+use Rattle.std.proofs.Common.{◌≡◌, ℕ, ◌≤◌, ◌&&◌, arith}
 use Rattle.std.specs.Prelude.{◌↔◌, IsTrue, nat_le}
 use Rattle.std.proofs.lemmas.Bool.{and_parts, and_from, leb-true, le-leb}
 use Rattle.labels.specs.Label.{Label, includes, secrecy_at_least, integrity_at_least, dominates}

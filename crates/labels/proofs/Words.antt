@@ -1,14 +1,14 @@
 -- Category words as sets.
-use Rattle.std.proofs.Common.{◌≡◌, ℕ, ◌<◌, ◌≤◌, ◌+◌, ◌^◌, ◌⊎◌, inl, inr, min, max, refl, sym, ap, ◌∙◌, arith, zero, suc, Bool, true, false, not, ◌||◌, eqb, List, [], ◌∷◌}
+use Rattle.std.proofs.Common.{◌≡◌, ℕ, ◌<◌, ◌≤◌, ◌+◌, ◌^◌, inl, inr, min, max, refl, sym, ap, ◌∙◌, arith, zero, suc, Bool, true, false, not, ◌||◌, eqb}
 use Rattle.std.specs.Prelude.{bit_and, bit_or, ◌↔◌, IsTrue, ◌==◌}
 use Rattle.std.specs.Int.{bit_at}
 use Rattle.std.specs.List.{list_all}
 use Rattle.std.proofs.lemmas.Nat.Bits.{bit_at_and, bit_at_or, same_from_bits, bit_at-lt, bit_at_above}
 use Rattle.std.proofs.lemmas.Bool.{eqb-true, cases_lt, and_parts, and_from}
 use Rattle.std.proofs.Common.{eq-eqb}
-use Rattle.lists.specs.Lists.{numbers_from, below}
+use Rattle.lists.specs.Lists.{numbers_from}
 use Rattle.labels.specs.Label.{includes, has_category}
-use Rattle.labels.specs.Order.{HasCategory, Includes}
+use Rattle.labels.specs.Order.{Includes}
 
 -- ---- a test of each number below 32
 

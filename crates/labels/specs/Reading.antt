@@ -1,6 +1,6 @@
 -- A label read from left to right. `read_label` is the answer of `Label::parse` as a function, and `label_of_text` the
 -- label alone; the rest serves private functions.
-use Rattle.std.specs.Prelude.{ℕ, ◌+◌, ◌-◌, ◌*◌, ◌^◌, ◌%◌, List, [], ◌∷◌, length, take, slice_index, Option, Some, None, option_map, option_and_then, Result, Ok, Err, ◌==◌, ◌&&◌, ◌||◌, nat_le, nat_lt, if◌then◌else◌, bit_or, min}
+use Rattle.std.specs.Prelude.{ℕ, ◌+◌, ◌-◌, ◌*◌, ◌^◌, ◌%◌, List, [], ◌∷◌, length, take, slice_index, Option, Some, None, option_map, option_and_then, Result, Ok, Err, ◌==◌, ◌&&◌, nat_le, nat_lt, if◌then◌else◌, bit_or, min}
 use Rattle.std.specs.Str.Parse.{digits_value}
 use Rattle.std.specs.Result.{result_ok}
 use Rattle.text_lines.specs.declared.decimal.NumberFault.{NumberFault}
