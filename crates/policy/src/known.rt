@@ -3,9 +3,10 @@
 ghost use Rattle.std.specs.Prelude.{◌≡◌, ◌↔◌, true, IsSome, IfSome};
 ghost use Rattle.std.specs.Option.{option_map};
 ghost use Rattle.rings.specs.Brackets.{in_order};
-ghost use Rattle.policy.specs.Known.{usable, alias_brackets, known_by};
+ghost use Rattle.policy.specs.Known.{usable, alias_brackets, known_by, in_table};
 
 use crate::rights::Rights;
+use labels::ClassTable;
 use rings::Brackets;
 use std::marker::Model;
 use words_layout::{Alias, SegId};
@@ -69,5 +70,18 @@ pub fn known_by(mentor_class: u8, alias: &Alias, rights: Rights) -> Known
         },
         size: alias.size,
         rights,
+    }
+}
+
+/// The entry of a word, as it counts in the table: an entry whose class isn't there or whose brackets aren't in
+/// order is taken as empty.
+pub fn in_table(table: &ClassTable, entry: Option<Alias>) -> Option<Alias>
+    ensures { result ≡ in_table table.now entry }
+{
+    let alias = entry?;
+    if alias.class < table.count() && brackets_in(&alias).is_some() {
+        Some(alias)
+    } else {
+        None
     }
 }
