@@ -1,5 +1,5 @@
 -- Which configurations are valid. Each part is a test that computes.
-use Rattle.std.specs.Prelude.{ℕ, ◌-◌, Bool, true, false, not, ◌&&◌, ◌||◌, List, [], ◌∷◌, ◌==◌, if◌then◌else◌, nat_le, nat_lt, length, count_by, IsTrue, Option, Some, None, slice_get, slice_index, slice_index_or, is_some}
+use Rattle.std.specs.Prelude.{ℕ, Bool, true, false, not, ◌&&◌, ◌||◌, List, [], ◌∷◌, ◌==◌, if◌then◌else◌, nat_le, nat_lt, length, count_by, IsTrue, Option, Some, None, slice_index, slice_index_or, is_some}
 use Rattle.std.specs.List.{list_all, find}
 use Rattle.std.specs.Option.{option_map_or}
 use Rattle.lists.specs.Lists.{below}
