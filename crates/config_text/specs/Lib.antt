@@ -1,0 +1,4 @@
+pub mod LabelText
+pub mod Written
+pub mod Valid
+pub mod Narrow

@@ -28,10 +28,14 @@ page_named code = if code == 0 then None else Some (code - 1)
 -- the home that the fields of a word read as, by its state
 abbrev pub home_read : ℕ → ℕ → ℕ → ℕ → Home
 home_read state frame page size =
-  if state == 0 then Never
-  else (if state == 1 then Stored (page - 1) size
-  else (if state == 2 then Resident frame (page_named page) size
-  else Deleted))
+    if state == 0 then Never
+    else (if state == 1 then Stored (page - 1) size
+    else (if state == 2 then Resident frame (page_named page) size
+    else Deleted))
+
+-- the home that the fields of a word read as
+abbrev pub home_as_read : ℕ → Home
+home_as_read word = home_read (word % 4) (word / 2 ^ 8 % 2 ^ 8) (word / 2 ^ 16 % 2 ^ 8) (word / 2 ^ 24 % 2 ^ 8)
 
 -- a page is below 32
 abbrev pub page_in_range : Option ℕ → Bool
@@ -73,8 +77,13 @@ pack_alias (Some a) = pack_entry a
 -- the alias that the fields of a word read as
 abbrev pub alias_read : ℕ → Alias
 alias_read word = record {
-  class = word / 2 ^ 8 % 2 ^ 8; r1 = word / 2 ^ 16 % 2 ^ 3; r2 = word / 2 ^ 20 % 2 ^ 3; r3 = word / 2 ^ 24 % 2 ^ 3;
-  size = word / 2 ^ 32 % 2 ^ 8; serial = word / 2 ^ 40 % 2 ^ 8 }
+  class = word / 2 ^ 8 % 2 ^ 8;
+  r1 = word / 2 ^ 16 % 2 ^ 3;
+  r2 = word / 2 ^ 20 % 2 ^ 3;
+  r3 = word / 2 ^ 24 % 2 ^ 3;
+  size = word / 2 ^ 32 % 2 ^ 8;
+  serial = word / 2 ^ 40 % 2 ^ 8;
+}
 
 -- the alias has a spelling
 abbrev pub alias_in_range : Alias → Bool
@@ -87,8 +96,8 @@ alias_spelled word a = if alias_in_range a && pack_entry a == word then Some a e
 -- what an entry word spells: nothing, an empty entry or an alias
 abbrev pub unpack_alias : ℕ → Option (Option Alias)
 unpack_alias word =
-  if word == 0 then Some None
-  else option_and_then (λ a. Some (Some a)) (alias_spelled word (alias_read word))
+    if word == 0 then Some None
+    else option_and_then (λ a. Some (Some a)) (alias_spelled word (alias_read word))
 
 -- a word that spells no entry is taken as the empty entry
 abbrev pub entry_of : ℕ → Option Alias

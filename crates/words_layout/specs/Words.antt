@@ -22,11 +22,11 @@ pub data GuardedWord : Type 0 where
 
 -- the name of a word of a class
 pub data Word : Type 0 where
-  Started : Guard → Word         -- turns started
-  Tickets : Guard → Word         -- turn tickets
-  Finished : Guard → Word        -- turns finished
-  Places : Word                  -- console places used
-  ComponentOf : (class : ℕ) → SegId → Word   -- of the eventcount of the segment of that class
+  Started : Guard → Word  -- turns started
+  Tickets : Guard → Word  -- turn tickets
+  Finished : Guard → Word  -- turns finished
+  Places : Word  -- console places used
+  ComponentOf : (class : ℕ) → SegId → Word  -- of the eventcount of the segment of that class
   SequencerOf : SegId → Word
   Guarded : GuardedWord → Word
 

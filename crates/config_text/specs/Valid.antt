@@ -1,0 +1,105 @@
+-- Which configurations are valid: ranges and limits.
+use Rattle.std.specs.Prelude.{ℕ, ◌≡◌, ◌*◌, ◌<◌, ◌≤◌, Bool, true, false, not, ◌&&◌, List, [], ◌∷◌, ◌==◌, nat_le, nat_lt, length, count_by, IsTrue, slice_get}
+use Rattle.std.specs.List.{list_all, sum_by}
+use Rattle.std.specs.Option.{option_map_or}
+use Rattle.std.specs.Str.{bytes_eq}
+use Rattle.text_lines.specs.Name.{is_name}
+use Rattle.lists.specs.Lists.{below}
+use Rattle.labels.specs.Label.{Label, ClassEntry, at_or_below}
+use Rattle.rings.specs.Brackets.{in_order}
+use Rattle.script_lang.specs.Program.{program_ok}
+use Rattle.config_text.specs.declared.config.Pool.{Pool}
+use Rattle.config_text.specs.declared.config.Script.{Script}
+use Rattle.config_text.specs.declared.config.GateLine.{GateLine}
+use Rattle.config_text.specs.declared.config.ProcessLine.{ProcessLine}
+use Rattle.config_text.specs.declared.config.Item.{Item}
+use Rattle.config_text.specs.declared.config.Item.TheVariants as item
+use Rattle.config_text.specs.declared.config.Config.{Config}
+
+-- a number from low to high
+abbrev pub within : ℕ → ℕ → ℕ → Bool
+within low high n = nat_le low n && nat_le n high
+
+-- two labels are equal
+abbrev pub same_label : Label → Label → Bool
+same_label a b = a.secrecy_level == b.secrecy_level && a.secrecy_cats == b.secrecy_cats && a.integrity_level == b.integrity_level && a.integrity_cats == b.integrity_cats
+
+abbrev pub label_in_range : Label → Bool
+label_in_range a = nat_le a.secrecy_level 15 && nat_lt a.secrecy_cats 4294967296 && nat_le a.integrity_level 15 && nat_lt a.integrity_cats 4294967296
+
+-- no later class has the name or the label of an earlier one
+abbrev pub all_distinct : List ClassEntry → Bool
+all_distinct [] = true
+all_distinct (c ∷ cs) = list_all (λ (x : ClassEntry). not (bytes_eq x.name c.name) && not (same_label x.label c.label)) cs && all_distinct cs
+
+-- 1 to 16 classes with different names and labels, each label at least that of class 0
+abbrev pub table_ok : List ClassEntry → Bool
+table_ok table = within 1 16 (length table) && list_all (λ (x : ClassEntry). label_in_range x.label && is_name x.name) table &&
+  all_distinct table && list_all (λ c. at_or_below table 0 c) (below (length table))
+
+-- the most events of a schedule
+abbrev pub max_events : ℕ
+max_events = 4194304
+
+-- the class is in the table
+abbrev pub is_class : Config → ℕ → Bool
+is_class k c = nat_lt c (length k.table)
+
+abbrev pub pool_ok : Pool → Bool
+pool_ok p = nat_le p.frames 16 && nat_le p.pages 32 && nat_le p.volume 4
+
+-- one pool for each class
+abbrev pub pools_ok : Config → Bool
+pools_ok k = length k.pools == length k.table && list_all pool_ok k.pools
+
+-- the numbers of the header
+abbrev pub header_ok : Config → Bool
+header_ok k = within 1 4 k.processors && within 1 4096 k.rounds && within 1 256 k.quantum && nat_le k.console 4096
+
+-- 1 to 16 classes
+abbrev pub cycle_ok : Config → Bool
+cycle_ok k = within 1 16 (length k.cycle) && list_all (is_class k) k.cycle
+
+abbrev pub script_ok : Config → Script → Bool
+script_ok k s = is_class k s.class && program_ok s.program
+
+-- the script is there, and its class is at or below class d
+abbrev pub uses_script : Config → ℕ → ℕ → Bool
+uses_script k d n = option_map_or (λ (s : Script). is_class k s.class && at_or_below k.table s.class d) (slice_get k.scripts n) false
+
+abbrev pub gate_ok : Config → GateLine → Bool
+gate_ok k g = is_class k g.class && uses_script k g.class g.script && in_order g.brackets
+
+abbrev pub process_ok : Config → ProcessLine → Bool
+process_ok k p = nat_lt p.processor k.processors && is_class k p.class && nat_le p.ring 7 && uses_script k p.class p.script
+
+-- how many processes a processor has of a class
+abbrev pub processes_of : Config → ℕ → ℕ → ℕ
+processes_of k p c = count_by (λ (x : ProcessLine). x.processor == p && x.class == c) k.processes
+
+-- how many events an item stands for
+abbrev pub events_of : Config → Item → ℕ
+events_of k (item.Events p c n) = n
+events_of k (item.Mix x n) = n
+events_of k (item.Sweep n) = n * k.quantum * k.processors
+
+abbrev pub item_ok : Config → Item → Bool
+item_ok k (item.Events p c n) = nat_lt p k.processors && is_class k c && within 1 max_events n
+item_ok k (item.Mix x n) = within 1 max_events n
+item_ok k (item.Sweep n) = within 1 max_events n
+
+-- a valid configuration
+pub record IsValid (k : Config) : Type 0 where
+  pub table : table_ok k.table ≡ true
+  pub pools : pools_ok k ≡ true
+  pub header : header_ok k ≡ true
+  pub cycle : cycle_ok k ≡ true
+  pub few_scripts : length k.scripts ≤ 32
+  pub scripts : list_all (script_ok k) k.scripts ≡ true
+  pub few_gates : length k.gates ≤ 32
+  pub gates : list_all (gate_ok k) k.gates ≡ true
+  pub processes : list_all (process_ok k) k.processes ≡ true
+  -- at most four processes of a class on a processor
+  pub few_processes : (p c : ℕ) → processes_of k p c ≤ 4
+  pub items : list_all (item_ok k) k.schedule ≡ true
+  pub few_events : sum_by (events_of k) k.schedule ≤ max_events

@@ -1,0 +1,61 @@
+//! The program: it hands the words and the host of its process to the top call, and says what that answered.
+#![tactic(auto)]
+
+mod text;
+
+use host_ports::FileHost;
+use kernel_top::{Status, sim_main};
+use std::env;
+use std::io;
+use std::io::ErrorKind;
+use std::process::ExitCode;
+use std::rt::{Env, Files};
+use text::StatusText;
+
+/// The words after the program's name. None where they can't be had, as where one isn't text.
+fn words_after_name(rt: &(impl Env + AllocGlobal)) -> Result<Option<Vec<String>>, Status> {
+    let mut words = Vec::new(rt.alloc());
+    let all = match env::args(rt) {
+        Ok(all) => all,
+        Err(fault) if fault.kind() == ErrorKind::OutOfMemory => return Err(Status::NoMemory),
+        Err(_) => return Ok(None),
+    };
+    for word in all.skip(1) {
+        if words.push(word).is_err() {
+            return Err(Status::NoMemory);
+        }
+    }
+    Ok(Some(words))
+}
+
+/// What the top call answers to those words, on the process's own streams and files.
+fn run<R: Files + Input + Print + AllocGlobal>(rt: &R, words: &[String]) -> Status {
+    let mut texts = Vec::new(rt.alloc());
+    for word in words {
+        if texts.push(word.as_str()).is_err() {
+            return Status::NoMemory;
+        }
+    }
+    let mut host = FileHost::new(rt);
+    sim_main(rt.alloc(), texts.as_slice(), &mut host)
+}
+
+/// Says on standard error what was answered, but for `Done`, of which nothing is said.
+fn say(rt: &impl Eprint, status: Status) -> io::Result<()> {
+    if status == Status::Done {
+        return Ok(());
+    }
+    rt.eprintln(StatusText(status))
+}
+
+/// Exits with the number of the answer.
+fn main(rt: HostRuntime) -> ExitCode {
+    let status = match words_after_name(&rt) {
+        Ok(Some(words)) => run(&rt, words.as_slice()),
+        Ok(None) => run(&rt, &[]),
+        Err(status) => status,
+    };
+    // Where standard error can't be written, the number is all that is left to tell.
+    let _ = say(&rt, status);
+    ExitCode::from(status.number())
+}

@@ -1,0 +1,9 @@
+pub mod ThinLists
+pub mod ThinParts
+pub mod ThinRun
+pub mod ThinOpening
+pub mod ThinSections
+pub mod Headline
+pub mod ThinText
+pub mod ThinValid
+pub mod SmallText

@@ -1,0 +1,28 @@
+-- What the report of a run shows to each class.
+use Rattle.std.specs.Prelude.{ℕ, Bool, List, length}
+use Rattle.std.specs.List.{flat_map, list_any}
+use Rattle.lists.specs.Lists.{below}
+use Rattle.words_layout.specs.declared.op.Event.{Event}
+use Rattle.class_model.specs.Config.{Config, low_config}
+use Rattle.class_model.specs.Run.{run}
+use Rattle.class_model.specs.Section.{section}
+use Rattle.machine.specs.Machine.{Machine, is_live}
+use Rattle.machine.specs.Opening.{machine, effects}
+use Rattle.machine.specs.Low.{low_events}
+
+-- What class c is shown: the section of the machine of whole instructions, given only the configuration at or below c and
+-- the order in which the steps of words that are at or below c took effect.
+abbrev pub low_section : Config → List Event → ℕ → List ℕ
+low_section k events c = section c (run (low_config c k) (effects (low_config c k) (low_events k.table c events)))
+
+-- the report: what each class is shown, in the order of the classes
+abbrev pub report_of : Config → List Event → List ℕ
+report_of k events = flat_map (low_section k events) (below (length k.table))
+
+-- a process of the class is live
+abbrev pub class_live : Machine → ℕ → Bool
+class_live m c = list_any (λ p. list_any is_live ((m.part c).vp p).slots) (below 4)
+
+-- some process is live after all events
+abbrev pub live_after : Config → List Event → Bool
+live_after k events = list_any (class_live (machine k events)) (below (length k.table))
