@@ -52,12 +52,15 @@ pub record Given : Type 0 where
   pub brackets : Brackets
   pub size : ℕ
 
+-- the root: class 0, brackets 7 7 7, size 0
 abbrev pub given_root : Given
 given_root = record { seg = seg 0 0; class = 0; brackets = record { r1 = 7; r2 = 7; r3 = 7 }; size = 0 }
 
+-- what its record gave a segment
 abbrev pub given_record : SegRecord → Given
 given_record r = record { seg = r.seg; class = r.class; brackets = r.brackets; size = r.size }
 
+-- what an Ok create of a process of class d gave the new segment
 abbrev pub given_asked : ℕ → Option (Request × Outcome) → Option Given
 given_asked d (Some (Create k e class b size, Value serial)) = Some (record { seg = seg d serial; class = class; brackets = b; size = size })
 given_asked d _ = None

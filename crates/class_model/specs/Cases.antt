@@ -1,6 +1,6 @@
 -- The worked cases: small configurations with their scripts, and what a run of them prints. The laws over them, in src/cases.rt
 -- and in the crate of the report, say what each one shows.
-use Rattle.std.specs.Prelude.{ℕ, ◌+◌, List, [], ◌∷◌, ◌++◌, codes, map, replicate, Option, Some}
+use Rattle.std.specs.Prelude.{ℕ, List, [], ◌∷◌, ◌++◌, codes, map, replicate, Option, Some}
 use Rattle.std.specs.List.{flat_map}
 use Rattle.std.specs.Fmt.{digits}
 use Rattle.labels.specs.Label.{ClassEntry}
@@ -59,12 +59,15 @@ low = class_entry (codes "low") 0 0 15 0
 abbrev pub high : ClassEntry
 high = class_entry (codes "high") 1 0 15 0
 
+-- the pool of a class, by its frames and pages
 abbrev pub pool : ℕ → ℕ → Pool
 pool frames pages = record { frames = frames; pages = pages }
 
+-- a script of a class
 abbrev pub script : ℕ → List Instr → Option Script
 script class program = Some (record { class = class; program = program })
 
+-- a gate of a class, by its script and brackets
 abbrev pub gate : ℕ → ℕ → Brackets → Option Gate
 gate class script brackets = Some (record { class = class; script = script; brackets = brackets })
 

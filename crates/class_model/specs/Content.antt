@@ -12,6 +12,7 @@ use Rattle.class_model.specs.Plan.{Request, Fetch, Update, Read, Advance, Ticket
 use Rattle.class_model.specs.Run.{Happened, history, opening}
 use Rattle.class_model.specs.Access.{Given, all_given, given_to}
 
+-- where an Ok update of u wrote, and what
 abbrev pub update_asked : SegId → Option (Request × Outcome) → Option (ℕ × List ℕ)
 update_asked u (Some (Update k offset words, Value count)) = if same_seg k.seg u then Some (offset, words) else None
 update_asked u _ = None
@@ -35,14 +36,17 @@ first_content k run u =
 abbrev pub content : Config → List ProcName → SegId → ℕ → List ℕ
 content k names u n = let run = history (opening k) names in after_updates (first_content k run u) (take n (updates_of u run))
 
+-- it is an Ok advance of u
 abbrev pub advances : SegId → Option (Request × Outcome) → Bool
 advances u (Some (Advance k, Value v)) = same_seg k.seg u
 advances u _ = false
 
+-- it is an Ok ticket of u
 abbrev pub draws : SegId → Option (Request × Outcome) → Bool
 draws u (Some (Ticket k, Value v)) = same_seg k.seg u
 draws u _ = false
 
+-- it is an out, also a refused one
 abbrev pub prints : Option (Request × Outcome) → Bool
 prints (Some (Out v, o)) = true
 prints _ = false
@@ -51,12 +55,15 @@ prints _ = false
 abbrev pub advances_in : ℕ → SegId → List Happened → ℕ
 advances_in c u run = count_by (λ (h : Happened). h.who.class == c && advances u h.deed.asked) run
 
+-- the Ok tickets of u among the effects
 abbrev pub tickets_in : SegId → List Happened → ℕ
 tickets_in u run = count_by (λ (h : Happened). draws u h.deed.asked) run
 
+-- the outs of class d among the effects
 abbrev pub outs_in : ℕ → List Happened → ℕ
 outs_in d run = count_by (λ (h : Happened). h.who.class == d && prints h.deed.asked) run
 
+-- two names are equal
 abbrev pub same_name : ProcName → ProcName → Bool
 same_name m n = m.processor == n.processor && m.class == n.class && m.slot == n.slot
 

@@ -39,6 +39,7 @@ abbrev pub tried : Process → Option Rule → Plan → Plan
 tried p None plan = plan
 tried p (Some rule) plan = Own (refused p rule)
 
+-- likewise by a list of tests
 abbrev pub tested : Process → List (Bool × Rule) → Plan → Plan
 tested p tests plan = tried p (first_broken tests) plan
 
@@ -60,6 +61,7 @@ called p gate (Some ring) =
     script = gate.script; place = 0; ring = ring;
     stack = record { script = p.script; place = p.place + 1; ring = p.ring } ∷ p.stack }
 
+-- a call of the gate, if it is there and at or below d
 abbrev pub call : Shared → ℕ → Process → Option Gate → Process
 call s d p None = refused p NoScript
 call s d p (Some gate) = if flows s gate.class d then called p gate (call_ring gate.brackets p.ring) else refused p NoScript

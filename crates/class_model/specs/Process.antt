@@ -47,6 +47,7 @@ new_process class script ring start = record {
   regs = slice_set (replicate 16 0) 2 start; pad = replicate 64 0;
   known = Some (root_known class) ∷ replicate 15 None; live = true; look = None }
 
+-- the number in a register
 abbrev pub reg : Process → ℕ → ℕ
 reg p a = slice_index p.regs a
 

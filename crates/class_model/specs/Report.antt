@@ -34,6 +34,7 @@ pub record Seen : Type 0 where
   pub processes : List SeenProcess
   pub segments : List SeenSegment
 
+-- whether a process is live, in a word
 abbrev pub state_word : Bool → List ℕ
 state_word true = codes "live"
 state_word false = codes "ended"
@@ -45,10 +46,12 @@ process_text s =
     decimal s.process.script ∷ codes "place" ∷ decimal s.process.place ∷ codes "ring" ∷ decimal s.process.ring ∷ []) ++
   line_of (codes "regs" ∷ map decimal s.process.regs)
 
+-- the line of words, if words are shown
 abbrev pub words_text : Option (List ℕ) → List ℕ
 words_text None = []
 words_text (Some words) = line_of (codes "words" ∷ map decimal words)
 
+-- the line of an entry
 abbrev pub entry_text : ℕ × Alias → List ℕ
 entry_text (e, a) = line_of (codes "entry" ∷ decimal e ∷ codes "class" ∷ decimal a.class ∷ codes "brackets" ∷
   decimal a.r1 ∷ decimal a.r2 ∷ decimal a.r3 ∷ codes "size" ∷ decimal a.size ∷ codes "serial" ∷ decimal a.serial ∷ [])

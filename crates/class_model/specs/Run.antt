@@ -28,6 +28,7 @@ alias_of r = new_alias r.class r.brackets r.size r.seg.serial
 abbrev pub opening_entry : Config → ℕ → SegId → ℕ → Option Alias
 opening_entry k c u e = option_map alias_of (find (λ r. r.seg.mentor == c && same_seg r.mentor u && r.entry == e) k.records)
 
+-- Stored where words were kept, else Never
 abbrev pub opening_home : Option (List ℕ) → CellHome
 opening_home None = Never
 opening_home (Some words) = Stored
@@ -49,6 +50,7 @@ opening_slots k c p =
   let lines = filter (λ (l : ProcessLine). l.processor == p && l.class == c) k.processes in
   map (λ i. option_map (λ (l : ProcessLine). new_process c l.script l.ring 0) (slice_get lines i)) (below 4)
 
+-- the part of class c at the opening
 abbrev pub opening_part : Config → ℕ → Part
 opening_part k c = record {
   cell = opening_cell k c; component = λ x u. 0; next_serial = opening_serial k c; lines = []; used = 0; slots = opening_slots k c }
@@ -72,6 +74,7 @@ pub record Happened : Type 0 where
   pub before : State
   pub deed : Deed
 
+-- a step that was made stands in front of those behind it
 abbrev pub happened : State → ProcName → Option Deed → List Happened → List Happened
 happened a n None rest = rest
 happened a n (Some x) rest = record { who = n; before = a; deed = x } ∷ rest

@@ -21,12 +21,14 @@ seen_slots processor slots =
 abbrev pub seen_processes : (ℕ → List (Option Process)) → List SeenProcess
 seen_processes slots = flat_map (λ processor. seen_slots processor (slots processor)) (below 4)
 
+-- a home in a word
 abbrev pub home_name : CellHome → List ℕ
 home_name Never = codes "never"
 home_name Stored = codes "stored"
 home_name (In live) = codes "in"
 home_name Deleted = codes "deleted"
 
+-- the home is Never
 abbrev pub never : CellHome → Bool
 never Never = true
 never _ = false
@@ -47,6 +49,7 @@ abbrev pub seen_entries : List (Option Alias) → List (ℕ × Alias)
 seen_entries entries =
   filter_map (λ (item : ℕ × Option Alias). option_map (λ (a : Alias). (item.0, a)) item.1) (enumerate_from 0 entries)
 
+-- what is seen of a cell
 abbrev pub seen_segment : SegId → Cell → ℕ → SeenSegment
 seen_segment u cell count = record {
   seg = u; home = home_name cell.home; writes = cell.writes; count = count; tickets = cell.sequencer;

@@ -41,6 +41,7 @@ pub record Part : Type 0 where
   pub used : ℕ
   pub slots : ℕ → List (Option Process)
 
+-- what no step changes, and the part of each class
 pub record State : Type 0 where
   pub shared : Shared
   pub part : ℕ → Part
@@ -69,6 +70,7 @@ entry_at cell e = slice_index_or cell.entries e None
 abbrev pub has_entry : Cell → Bool
 has_entry cell = list_any (λ e. is_some e) cell.entries
 
+-- the home is In
 abbrev pub is_in_home : CellHome → Bool
 is_in_home (In live) = true
 is_in_home _ = false
@@ -77,6 +79,7 @@ is_in_home _ = false
 abbrev pub is_in : Cell → Bool
 is_in cell = is_in_home cell.home
 
+-- the home is Deleted
 abbrev pub is_deleted_home : CellHome → Bool
 is_deleted_home Deleted = true
 is_deleted_home _ = false
@@ -90,6 +93,7 @@ abbrev pub live_of : CellHome → List ℕ
 live_of (In live) = live
 live_of _ = []
 
+-- the live words of a cell
 abbrev pub live_words : Cell → List ℕ
 live_words cell = live_of cell.home
 

@@ -21,6 +21,7 @@ pub record Effect : Type 0 where
   pub part : Part
   pub outcome : Outcome
 
+-- a refusal changes nothing
 abbrev pub chosen : Part → Option Rule → Effect → Effect
 chosen part None effect = effect
 chosen part (Some rule) effect = record { part = part; outcome = Refused rule }
@@ -98,6 +99,7 @@ abbrev pub advance_effect : Part → ℕ → SegId → Effect
 advance_effect part x u =
   record { part = with_component part x u (part.component x u + 1); outcome = Value (part.component x u + 1) }
 
+-- ticket: the sequencer rises, and the old number is shown
 abbrev pub ticket_effect : Part → SegId → Effect
 ticket_effect part u = let cell = part.cell u in
   record { part = with_cell part u (record cell { sequencer = cell.sequencer + 1 }); outcome = Value cell.sequencer }
@@ -161,6 +163,7 @@ deed_by a n (Some p) = if p.live then Some (deed_of a n p (plan a.shared n.class
 abbrev pub deed : State → ProcName → Option Deed
 deed a n = deed_by a n (process_at a n)
 
+-- the state with the part of class d after a deed, or as it was
 abbrev pub done : State → ℕ → Option Deed → State
 done a d None = a
 done a d (Some x) = with_part a d x.part

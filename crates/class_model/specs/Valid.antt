@@ -1,5 +1,5 @@
 -- Which configurations are valid. Each part is a test that computes.
-use Rattle.std.specs.Prelude.{ℕ, ◌-◌, Bool, true, false, not, ◌&&◌, ◌||◌, List, [], ◌∷◌, ◌==◌, if◌then◌else◌, nat_le, nat_lt, length, count_by, IsTrue, Option, Some, None, slice_get, slice_index, slice_index_or, is_some}
+use Rattle.std.specs.Prelude.{ℕ, Bool, true, false, not, ◌&&◌, ◌||◌, List, [], ◌∷◌, ◌==◌, if◌then◌else◌, nat_le, nat_lt, length, count_by, IsTrue, Option, Some, None, slice_index, slice_index_or, is_some}
 use Rattle.std.specs.List.{list_all, find}
 use Rattle.std.specs.Option.{option_map_or}
 use Rattle.lists.specs.Lists.{below}
@@ -27,14 +27,6 @@ same_label a b = a.secrecy_level == b.secrecy_level && a.secrecy_cats == b.secre
 -- levels are at most 15, and categories are below 32
 abbrev pub label_in_range : Label → Bool
 label_in_range a = nat_le a.secrecy_level 15 && nat_lt a.secrecy_cats 4294967296 && nat_le a.integrity_level 15 && nat_lt a.integrity_cats 4294967296
-
--- a letter from a to z or a digit
-abbrev pub name_byte : ℕ → Bool
-name_byte x = within 97 122 x || within 48 57 x
-
--- a name: 1 to 16 letters and digits
-abbrev pub name_ok : List ℕ → Bool
-name_ok name = within 1 16 (length name) && list_all name_byte name
 
 -- no later class has the name or the label of this one
 abbrev pub all_distinct : List ClassEntry → Bool
@@ -104,11 +96,10 @@ records_distinct (r ∷ rs) =
 abbrev pub pages_ok : Config → ℕ → Bool
 pages_ok k c = nat_le (count_by (λ (r : SegRecord). r.class == c && is_some r.kept) k.records) (pool_of (shared_of k) c).pages
 
--- A valid configuration with its volumes, and likewise its part at or below a class. No order of the records is asked for, and
--- scripts and gates may have empty places.
+-- A valid configuration with its volumes, and likewise its part at or below a class. No order of the records and no spelling
+-- of names is asked for, and scripts and gates may have empty places.
 pub record IsConfig (k : Config) : Type 0 where
   pub table : IsTrue (table_ok k.table)
-  pub names : IsTrue (list_all (λ (x : ClassEntry). name_ok x.name) k.table)
   pub pools : IsTrue (length k.pools == length k.table && list_all (λ (p : Pool). nat_le p.frames 16 && nat_le p.pages 32) k.pools)
   pub volumes : IsTrue (length k.volumes == length k.table && list_all (λ v. nat_le v 4) k.volumes)
   pub processors : IsTrue (within 1 4 k.processors)

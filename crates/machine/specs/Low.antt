@@ -21,5 +21,6 @@ pub record LowPart : Type 0 where
   pub shared : Shared
   pub part : ℕ → Option ClassPart
 
+-- the part of a machine at or below c
 abbrev pub low_part : ℕ → Machine → LowPart
 low_part c m = record { shared = low_shared c m.shared; part = λ d. if flows m.shared d c then Some (m.part d) else None }

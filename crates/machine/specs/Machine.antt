@@ -21,13 +21,16 @@ pub record ClassPart : Type 0 where
   pub words : Words
   pub vp : ℕ → VirtualProcessor
 
+-- what no step changes, and the part of each class
 pub record Machine : Type 0 where
   pub shared : Shared
   pub part : ℕ → ClassPart
 
+-- the process of a slot, if it ever held one
 abbrev pub slot_at : VirtualProcessor → ℕ → Option Running
 slot_at v i = slice_index_or v.slots i None
 
+-- there is a process, and it is live
 abbrev pub is_live : Option Running → Bool
 is_live None = false
 is_live (Some r) = r.process.live
@@ -41,6 +44,7 @@ abbrev pub turn_of : VirtualProcessor → Option ℕ → Option (ℕ × Running)
 turn_of v None = None
 turn_of v (Some i) = option_map (λ (r : Running). (i, r)) (slot_at v i)
 
+-- the process that takes the next step, from the current slot on
 abbrev pub chosen : VirtualProcessor → Option (ℕ × Running)
 chosen v = turn_of v (live_slot v)
 
@@ -57,6 +61,7 @@ abbrev pub slot_after : ℕ → Ending → ℕ
 slot_after i Goes = i
 slot_after i _ = (i + 1) % 4
 
+-- a new process stands in its slot
 abbrev pub slots_after : List (Option Running) → Made → List (Option Running)
 slots_after slots (Child slot child) = slice_set slots slot (Some (record { process = child; doing = Fresh }))
 slots_after slots _ = slots
@@ -66,6 +71,7 @@ abbrev pub lines_after : Shared → List (ℕ × ℕ) → Made → List (ℕ × 
 lines_after s lines (Line place value) = if nat_lt (length lines) s.console then lines ++ (place, value) ∷ [] else lines
 lines_after s lines _ = lines
 
+-- the virtual processor with the process of slot i after its step
 abbrev pub vp_absorbed : Shared → VirtualProcessor → ℕ → Absorbed → VirtualProcessor
 vp_absorbed s v i x = record {
   slots = slots_after (slice_set v.slots i (Some x.running)) x.made; current = slot_after i x.ending; lines = lines_after s v.lines x.made }
@@ -74,6 +80,7 @@ vp_absorbed s v i x = record {
 abbrev pub absorbed : Shared → ℕ → VirtualProcessor → ℕ → ℕ × Running → Absorbed
 absorbed s d v answer x = absorb s d x.1 (free_slot v) answer
 
+-- where no process is live it stays as it is
 abbrev pub vp_chosen : Shared → ℕ → VirtualProcessor → ℕ → Option (ℕ × Running) → VirtualProcessor
 vp_chosen s d v answer None = v
 vp_chosen s d v answer (Some x) = vp_absorbed s v x.0 (absorbed s d v answer x)
@@ -82,9 +89,11 @@ vp_chosen s d v answer (Some x) = vp_absorbed s v x.0 (absorbed s d v answer x)
 abbrev pub vp_after : Shared → ℕ → VirtualProcessor → ℕ → VirtualProcessor
 vp_after s d v answer = vp_chosen s d v answer (chosen v)
 
+-- the slot, where there was an effect
 abbrev pub effect_slot : ℕ → Bool → List ℕ
 effect_slot i effect = if effect then i ∷ [] else []
 
+-- the slot of the process that was chosen, where there was an effect
 abbrev pub effect_chosen : Shared → ℕ → VirtualProcessor → ℕ → Option (ℕ × Running) → List ℕ
 effect_chosen s d v answer None = []
 effect_chosen s d v answer (Some x) = effect_slot x.0 (absorbed s d v answer x).effect
@@ -97,6 +106,7 @@ vp_effect s d v answer = effect_chosen s d v answer (chosen v)
 abbrev pub words_of : Machine → ℕ → Words
 words_of m class = (m.part class).words
 
+-- the operation is done on the words, and its answer absorbed; where there is none nothing changes
 abbrev pub part_done : Shared → (ℕ → Words) → ℕ → ClassPart → ℕ → Option WordOp → ClassPart
 part_done s words d here p None = here
 part_done s words d here p (Some op) = record {
@@ -116,6 +126,7 @@ abbrev pub run : Machine → List Event → Machine
 run m [] = m
 run m (e ∷ events) = run (step m e) events
 
+-- the slot of the effect by the answer to that operation
 abbrev pub part_ends : Shared → (ℕ → Words) → ℕ → ClassPart → ℕ → Option WordOp → List ℕ
 part_ends s words d here p None = []
 part_ends s words d here p (Some op) = vp_effect s d (here.vp p) (answer_to words d op)

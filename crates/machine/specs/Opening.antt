@@ -23,6 +23,7 @@ paged k c = filter (λ (r : SegRecord). r.class == c && is_some r.kept) k.record
 abbrev pub opening_page : Config → ℕ → SegId → Option ℕ
 opening_page k c u = position (λ (r : SegRecord). same_seg r.seg u) (paged k c)
 
+-- the size of the segment whose words page g has at the opening
 abbrev pub page_size : Config → ℕ → ℕ → ℕ
 page_size k c g = option_map_or (λ (r : SegRecord). r.size) (slice_get (paged k c) g) 0
 
@@ -53,6 +54,7 @@ opening_words k c = record {
 abbrev pub at_rest : Process → Running
 at_rest p = record { process = p; doing = Fresh }
 
+-- the virtual processor of class c on processor p at the opening
 abbrev pub opening_vp : Config → ℕ → ℕ → VirtualProcessor
 opening_vp k c p = record { slots = map (option_map at_rest) (opening_slots k c p); current = 0; lines = [] }
 

@@ -22,14 +22,17 @@ NotInTurn g (Some r) = inside (stage g r.doing) ≡ false
 abbrev pub NoTurn : Guard → ClassPart → Type 0
 NoTurn g part = (p slot : ℕ) → NotInTurn g (slot_at (part.vp p) slot)
 
+-- the home names frame n
 abbrev pub names_frame : Home → ℕ → Bool
 names_frame (H.Resident f page size) n = f == n
 names_frame _ n = false
 
+-- it is page n
 abbrev pub is_page : Option ℕ → ℕ → Bool
 is_page None n = false
 is_page (Some g) n = g == n
 
+-- the home names page n
 abbrev pub names_page : Home → ℕ → Bool
 names_page (H.Resident f page size) n = is_page page n
 names_page (H.Stored g size) n = g == n

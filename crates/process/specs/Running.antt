@@ -37,6 +37,7 @@ act s d ring (Advance k) = Once (advance_op k) (λ w. at_once (advance_shows w))
 act s d ring (Ticket k) = Once (ticket_op k) (λ w. at_once (ticket_shows w))
 act s d ring (Out value) = Once out_op (λ w. at_once (out_shows s.console value w))
 
+-- a process, and how far its next instruction is
 pub record Running : Type 0 where
   pub process : Process
   pub doing : Doing Outcome
@@ -52,6 +53,7 @@ abbrev pub running_op : Shared → ℕ → Process → Doing Outcome → WordOp
 running_op s d p Fresh = plan_op s d p.ring (plan s d p)
 running_op s d p doing = doing_op d doing
 
+-- the operation that its next step performs
 abbrev pub next_op : Shared → ℕ → Running → WordOp
 next_op s d r = running_op s d r.process r.doing
 
@@ -68,6 +70,7 @@ pub record Absorbed : Type 0 where
   pub effect : Bool
   pub made : Made
 
+-- a console line is made by an Ok out alone
 abbrev pub made_of : Option Outcome → Made
 made_of (Some (Printed place value)) = Line place value
 made_of _ = Made.Nothing
@@ -77,18 +80,22 @@ abbrev pub taken : Process → Option Outcome → Process
 taken p None = p
 taken p (Some outcome) = settled p outcome
 
+-- the process after what a step told it: what takes effect settles it
 abbrev pub after_told : Process → Told Outcome → Absorbed
 after_told p told = record {
   running = record { process = taken p told.takes; doing = told.doing }; ending = told.ending; effect = is_some told.takes;
   made = made_of told.takes }
 
+-- an instruction that took effect at its one step
 abbrev pub ended_as : Process → Made → Absorbed
 ended_as p made = record { running = record { process = p; doing = Fresh }; ending = Ends; effect = true; made = made }
 
+-- a new process in the free slot, or a refusal where there is none
 abbrev pub begin_in : Process → Process → Option ℕ → Absorbed
 begin_in p child None = ended_as (refused p NoSlot) Made.Nothing
 begin_in p child (Some slot) = ended_as (answered p slot) (Child slot child)
 
+-- the first step of an instruction, by its plan
 abbrev pub plan_absorbed : Shared → ℕ → Process → Option ℕ → ℕ → Plan → Absorbed
 plan_absorbed s d p free answer (Own after) = ended_as after Made.Nothing
 plan_absorbed s d p free answer (Begin child) = begin_in p child free
@@ -99,5 +106,6 @@ abbrev pub doing_absorbed : Shared → ℕ → Process → Option ℕ → ℕ �
 doing_absorbed s d p free answer Fresh = plan_absorbed s d p free answer (plan s d p)
 doing_absorbed s d p free answer doing = after_told p (doing_told doing answer)
 
+-- likewise with its unfinished instruction: what a step of a process makes of it
 abbrev pub absorb : Shared → ℕ → Running → Option ℕ → ℕ → Absorbed
 absorb s d r free answer = doing_absorbed s d r.process free answer r.doing

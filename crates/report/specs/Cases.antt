@@ -1,6 +1,6 @@
 -- The worked cases of the machine of words: configurations, schedules, and what a run of them prints. The laws over them, in
 -- src/cases.rt, say what each one shows. Those that the machine of whole instructions has too stand in its crate.
-use Rattle.std.specs.Prelude.{ℕ, ◌+◌, ◌==◌, ◌&&◌, Bool, List, [], ◌∷◌, ◌++◌, codes, length, map, replicate, reverse, take, count_by}
+use Rattle.std.specs.Prelude.{ℕ, ◌==◌, ◌&&◌, Bool, List, [], ◌∷◌, ◌++◌, codes, length, map, replicate, reverse, take, count_by}
 use Rattle.std.specs.List.{list_all}
 use Rattle.std.specs.Fmt.{decimal, digits}
 use Rattle.lists.specs.Lists.{below}
@@ -15,7 +15,7 @@ use Rattle.class_model.specs.Run.{history, opening}
 use Rattle.class_model.specs.Run.{run as whole_run}
 use Rattle.class_model.specs.Section.{section as whole_section, seen as whole_seen}
 use Rattle.class_model.specs.Content.{looked_at}
-use Rattle.class_model.specs.Cases.{text, class_entry, low, script, gate, process, two_classes, alone, makes_upgraded}
+use Rattle.class_model.specs.Cases.{text, class_entry, low, script, gate, process, two_classes, alone}
 use Rattle.machine.specs.Low.{low_events}
 use Rattle.machine.specs.Opening.{machine, effects}
 use Rattle.schedule.specs.Schedule.{Shape}
@@ -183,6 +183,7 @@ withdraws = side_by_side_scripts
   (I.Set 7 3 ∷ I.MakeKnown 2 2 7 ∷ I.Copy 8 1 ∷ I.Set 6 2 ∷ I.SwapIn 8 ∷ I.Set 9 9 ∷ I.Put 9 2 ∷ I.Update 8 2 6 2 ∷
     I.Fetch 8 2 6 2 ∷ I.Get 9 2 ∷ I.Out 9 ∷ I.MakeKnown 2 2 7 ∷ I.Out 0 ∷ I.Halt ∷ [])
 
+-- it is deleted between two steps of the process that uses it
 unfoldable pub withdrawn_in_use : List Event
 withdrawn_in_use = events 0 0 12 ++ events 1 1 31 ++ events 0 0 8 ++ events 1 1 14
 
@@ -203,6 +204,7 @@ two_segments = two_classes 3 (script 0 writes_twice ∷
   script 0 (I.Set 3 1 ∷ I.Set 5 511 ∷ I.Set 7 3 ∷ I.Create 2 3 2 5 3 ∷ I.MakeKnown 2 3 7 ∷ I.SwapIn 1 ∷ I.Halt ∷ []) ∷ []) []
   (process 0 0 0 4 ∷ process 1 1 1 4 ∷ process 2 0 2 4 ∷ [])
 
+-- the update of the one segment stands whole within the look at the other one
 unfoldable pub update_elsewhere_within_look : List Event
 update_elsewhere_within_look = events 2 0 30 ++ events 0 0 47 ++ events 1 1 7 ++ events 1 1 3 ++ events 0 0 8 ++ events 1 1 2 ++
   events 1 1 2 ++ events 0 0 1

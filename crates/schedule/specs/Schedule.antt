@@ -7,6 +7,7 @@ use Rattle.config_text.specs.declared.config.Config.{Config}
 use Rattle.config_text.specs.declared.config.Item.{Item}
 use Rattle.config_text.specs.declared.config.Item.TheVariants.{Events, Mix, Sweep}
 
+-- an event of processor p and class c
 abbrev pub event : ℕ → ℕ → Event
 event p c = record { processor = p; class = c }
 
