@@ -40,7 +40,11 @@ pub fn brackets_from(number: u64) -> Option<Brackets>
     if number > 511 {
         return None;
     }
-    Brackets::new((number / 64) as u8, (number / 8 % 8) as u8, (number % 8) as u8)
+    Brackets::new(
+        (number / 64) as u8,
+        (number / 8 % 8) as u8,
+        (number % 8) as u8,
+    )
 }
 
 /// Before reading, as `read` and `await` do.
@@ -159,13 +163,7 @@ pub fn swap_out_refusal(ring: Ring, known: &Known) -> Option<Rule>
 }
 
 /// Of `fetch`: `count` words from `offset` on into the pad from `pad` on.
-pub fn fetch_refusal(
-    ring: Ring,
-    known: &Known,
-    offset: u64,
-    count: u64,
-    pad: u64,
-) -> Option<Rule>
+pub fn fetch_refusal(ring: Ring, known: &Known, offset: u64, count: u64, pad: u64) -> Option<Rule>
     ensures { result ≡ first_broken (fetch_tests ring offset count pad known.now) }
 {
     if !known.brackets.may_read(ring) {
@@ -178,13 +176,7 @@ pub fn fetch_refusal(
 }
 
 /// Of `update`: `count` words of the pad from `pad` on into the words from `offset` on.
-pub fn update_refusal(
-    ring: Ring,
-    known: &Known,
-    offset: u64,
-    count: u64,
-    pad: u64,
-) -> Option<Rule>
+pub fn update_refusal(ring: Ring, known: &Known, offset: u64, count: u64, pad: u64) -> Option<Rule>
     ensures { result ≡ first_broken (update_tests ring offset count pad known.now) }
 {
     if let Some(rule) = change_refusal(ring, known) {
