@@ -3,13 +3,12 @@
 
 mod text;
 
-use host_ports::FileHost;
+use host_ports::{FileHost, Host};
 use kernel_top::{Status, sim_main};
-use std::env;
-use std::io;
 use std::io::ErrorKind;
 use std::process::ExitCode;
-use std::rt::{Env, Files};
+use std::rt::Env;
+use std::{env, io};
 use text::StatusText;
 
 /// The words after the program's name. None where they can't be had, as where one isn't text.
@@ -28,16 +27,24 @@ fn words_after_name(rt: &(impl Env + AllocGlobal)) -> Result<Option<Vec<String>>
     Ok(Some(words))
 }
 
-/// What the top call answers to those words, on the process's own streams and files.
-fn run<R: Files + Input + Print + AllocGlobal>(rt: &R, words: &[String]) -> Status {
+/// What the top call answers to those words on that host.
+fn run<H: Host>(rt: &impl AllocGlobal, words: &[String], host: &mut H) -> Status {
     let mut texts = Vec::new(rt.alloc());
     for word in words {
         if texts.push(word.as_str()).is_err() {
             return Status::NoMemory;
         }
     }
-    let mut host = FileHost::new(rt);
-    sim_main(rt.alloc(), texts.as_slice(), &mut host)
+    sim_main(rt.alloc(), texts.as_slice(), host)
+}
+
+/// What the top call answers to the words of the process. Words that can't be had are as no words.
+fn answer<H: Host>(rt: &(impl Env + AllocGlobal), host: &mut H) -> Status {
+    match words_after_name(rt) {
+        Ok(Some(words)) => run(rt, words.as_slice(), host),
+        Ok(None) => run(rt, &[], host),
+        Err(status) => status,
+    }
 }
 
 /// Says on standard error what was answered, but for `Done`, of which nothing is said.
@@ -50,10 +57,9 @@ fn say(rt: &impl Eprint, status: Status) -> io::Result<()> {
 
 /// Exits with the number of the answer.
 fn main(rt: HostRuntime) -> ExitCode {
-    let status = match words_after_name(&rt) {
-        Ok(Some(words)) => run(&rt, words.as_slice()),
-        Ok(None) => run(&rt, &[]),
-        Err(status) => status,
+    let status = match rt.clone() {
+        Ok(own) => answer(&rt, &mut FileHost::new(own)),
+        Err(_) => Status::NoMemory,
     };
     // Where standard error can't be written, the number is all that is left to tell.
     let _ = say(&rt, status);

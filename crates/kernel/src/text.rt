@@ -16,11 +16,6 @@ struct RefusalText(Refusal);
 struct FaultText(PortFault);
 
 impl fmt::Display for RefusalText {
-    ghost use Rattle.std.specs.Prelude.{Some};
-    ghost use Rattle.kernel.specs.Texts.{refusal_text};
-
-    ghost output = { λ t. Some (refusal_text t.0) };
-
     fn fmt<W: fmt::Write>(&self, f: &mut fmt::Formatter<W>) -> fmt::Result {
         match self.0 {
             Refusal::Config { line, code } => write!(f, "config line {line} code {code}"),
@@ -39,11 +34,6 @@ impl fmt::Display for RefusalText {
 }
 
 impl fmt::Display for FaultText {
-    ghost use Rattle.std.specs.Prelude.{Some};
-    ghost use Rattle.kernel.specs.Texts.{fault_text};
-
-    ghost output = { λ t. Some (fault_text t.0) };
-
     fn fmt<W: fmt::Write>(&self, f: &mut fmt::Formatter<W>) -> fmt::Result {
         match self.0 {
             PortFault::Read { port } => write!(f, "read port {port}"),
@@ -54,11 +44,6 @@ impl fmt::Display for FaultText {
 }
 
 impl fmt::Display for StatusText {
-    ghost use Rattle.std.specs.Prelude.{Some};
-    ghost use Rattle.kernel.specs.Texts.{status_text};
-
-    ghost output = { λ t. Some (status_text t.0) };
-
     fn fmt<W: fmt::Write>(&self, f: &mut fmt::Formatter<W>) -> fmt::Result {
         match self.0 {
             Status::Done => f.write_str("done"),
@@ -74,5 +59,73 @@ impl fmt::Display for StatusText {
             Status::Unfinished => f.write_str("unfinished"),
             Status::NoMemory => f.write_str("no memory"),
         }
+    }
+}
+
+#[cfg(test)]
+mod tests {
+    use super::*;
+    use std::test::Fail;
+
+    #[test]
+    fn says_each_answer(rt: HostRuntime) -> Result<(), Fail> {
+        let cases = [
+            (
+                Status::Refused(Refusal::Config { line: 17, code: 12 }),
+                "refused config line 17 code 12",
+            ),
+            (
+                Status::Refused(Refusal::Class {
+                    given: 5,
+                    classes: 2,
+                }),
+                "refused class 5 of 2",
+            ),
+            (
+                Status::Refused(Refusal::Volume {
+                    port: 1,
+                    offset: 42,
+                    code: 8,
+                }),
+                "refused volume 1 offset 42 code 8",
+            ),
+            (
+                Status::Refused(Refusal::Load {
+                    volume: 1,
+                    item: 3,
+                    code: 5,
+                }),
+                "refused load 1 item 3 code 5",
+            ),
+            (
+                Status::Refused(Refusal::TooLong { port: 1 }),
+                "refused long port 1",
+            ),
+            (
+                Status::Refused(Refusal::Release { line: 4, code: 13 }),
+                "refused release line 4 code 13",
+            ),
+            (
+                Status::Refused(Refusal::Store { length: 0 }),
+                "refused store length 0",
+            ),
+            (Status::Usage { kind: 6 }, "usage kind 6"),
+            (
+                Status::HostFault(PortFault::Read { port: 0 }),
+                "fault read port 0",
+            ),
+            (
+                Status::HostFault(PortFault::Write { port: 4 }),
+                "fault write port 4",
+            ),
+            (Status::HostFault(PortFault::Disk), "fault disk"),
+            (Status::Unfinished, "unfinished"),
+            (Status::NoMemory, "no memory"),
+        ];
+        for (status, text) in cases {
+            let said = StatusText(status).to_string(rt.alloc())?;
+            assert_eq!(rt; said.as_str(), text);
+        }
+        Ok(())
     }
 }
