@@ -21,4 +21,4 @@ is_last _ = false
 -- 1 to 256 instructions, targets among them, the last one halt or jump
 abbrev pub program_ok : List Instr → Bool
 program_ok program = nat_le 1 (length program) && nat_le (length program) 256 && list_all (λ i. target_ok (length program) i) program &&
-  option_map_or is_last (slice_get program (length program - 1)) false
+    option_map_or is_last (slice_get program (length program - 1)) false

@@ -4,7 +4,9 @@
 mod instr;
 mod operand;
 mod program;
+#[cfg(test)]
+mod tests;
 
 pub use instr::Instr;
 pub use operand::{Index, Reg};
-pub use program::Program;
+pub use program::{Program, ProgramError};
