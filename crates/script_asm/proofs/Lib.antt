@@ -1,0 +1,4 @@
+pub mod Counts
+pub mod Steps
+pub mod Valid
+pub mod Outcome

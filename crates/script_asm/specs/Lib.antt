@@ -1,0 +1,4 @@
+pub mod Operand
+pub mod Script
+pub mod Answer
+pub mod Reading

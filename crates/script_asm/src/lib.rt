@@ -1,0 +1,17 @@
+//! Script text, read and printed.
+#![tactic(auto)]
+
+mod draft;
+mod fault;
+mod named;
+mod names;
+mod op;
+mod operands;
+mod reading;
+mod word;
+
+pub use fault::AsmError;
+pub use reading::assemble;
+
+#[cfg(test)]
+mod tests;
