@@ -1,6 +1,6 @@
 //! The host of the program: its standard streams and files.
 
-ghost use Rattle.std.specs.Prelude.{◌≡◌, ◌<◌, ◌≤◌, length, IfOk};
+ghost use Rattle.std.specs.Prelude.{◌≡◌, ◌<◌, ◌≤◌, [], ◌∷◌, length, IfOk};
 ghost use Rattle.host_ports.specs.Files.{counted_port};
 
 use crate::host::{Failed, Host};
@@ -29,8 +29,11 @@ pub struct FileHost<R: Files + Input + Print + Drop> {
 }
 
 impl<R: Files + Input + Print + Drop> FileHost<R> {
-    /// A host on the streams and files of that runtime. It opens no file yet.
-    pub fn new(rt: R) -> FileHost<R> {
+    /// A host on the streams and files of that runtime, where nothing has failed. It opens no file yet.
+    pub fn new(rt: R) -> FileHost<R>
+        ensures pulls { result.pulls ≡ 0 ∷ 0 ∷ 0 ∷ 0 ∷ 0 ∷ [] }
+        ensures pushes { result.pushes ≡ 0 ∷ 0 ∷ 0 ∷ 0 ∷ 0 ∷ [] }
+    {
         let input = rt.reader();
         FileHost {
             rt,
