@@ -2,3 +2,4 @@ pub mod Counts
 pub mod Steps
 pub mod Valid
 pub mod Outcome
+pub mod Pieces

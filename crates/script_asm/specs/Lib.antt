@@ -2,3 +2,4 @@ pub mod Operand
 pub mod Script
 pub mod Answer
 pub mod Reading
+pub mod ScriptText

@@ -50,37 +50,44 @@ pub enum Op {
 }
 
 /// The mnemonic's text.
-pub fn op_text(op: Op) -> &'static [u8]
+pub fn op_name(op: Op) -> &'static str
     ensures { result.now ≡ spec.op_text op }
 {
     match op {
-        Op::Halt => b"halt",
-        Op::Set => b"set",
-        Op::Copy => b"copy",
-        Op::Add => b"add",
-        Op::Sub => b"sub",
-        Op::Jump => b"jump",
-        Op::JumpZ => b"jumpz",
-        Op::JumpL => b"jumpl",
-        Op::Get => b"get",
-        Op::Put => b"put",
-        Op::Call => b"call",
-        Op::Ret => b"ret",
-        Op::Spawn => b"spawn",
-        Op::MakeKnown => b"makeknown",
-        Op::Terminate => b"terminate",
-        Op::Create => b"create",
-        Op::Delete => b"delete",
-        Op::SwapIn => b"swapin",
-        Op::SwapOut => b"swapout",
-        Op::Fetch => b"fetch",
-        Op::Update => b"update",
-        Op::Read => b"read",
-        Op::Await => b"await",
-        Op::Advance => b"advance",
-        Op::Ticket => b"ticket",
-        Op::Out => b"out",
+        Op::Halt => "halt",
+        Op::Set => "set",
+        Op::Copy => "copy",
+        Op::Add => "add",
+        Op::Sub => "sub",
+        Op::Jump => "jump",
+        Op::JumpZ => "jumpz",
+        Op::JumpL => "jumpl",
+        Op::Get => "get",
+        Op::Put => "put",
+        Op::Call => "call",
+        Op::Ret => "ret",
+        Op::Spawn => "spawn",
+        Op::MakeKnown => "makeknown",
+        Op::Terminate => "terminate",
+        Op::Create => "create",
+        Op::Delete => "delete",
+        Op::SwapIn => "swapin",
+        Op::SwapOut => "swapout",
+        Op::Fetch => "fetch",
+        Op::Update => "update",
+        Op::Read => "read",
+        Op::Await => "await",
+        Op::Advance => "advance",
+        Op::Ticket => "ticket",
+        Op::Out => "out",
     }
+}
+
+/// The bytes of the mnemonic's text.
+pub fn op_text(op: Op) -> &'static [u8]
+    ensures { result.now ≡ spec.op_text op }
+{
+    op_name(op).as_bytes()
 }
 
 /// What its operands are, in order.
