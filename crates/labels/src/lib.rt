@@ -1,8 +1,14 @@
 //! Access labels, their order, their text and bytes, and the table of the access classes.
 #![tactic(auto)]
 
+mod fault;
+mod half;
 mod label;
+mod laws;
+mod printing;
 mod table;
 
-pub use label::Label;
+pub use fault::{LabelFault, TableFault};
+pub use label::{Label, MAX_LEVEL};
+pub use laws::{order_laws, text_laws, twin_laws};
 pub use table::ClassTable;
