@@ -1,8 +1,8 @@
 -- The fault that is found is the first one, and the only one that is the first.
-use Rattle.std.proofs.Common.{◌≡◌, ℕ, suc, ◌+◌, ◌-◌, ◌<◌, ◌≤◌, Bool, true, false, cond, not, ◌&&◌, List, [], ◌∷◌, length, get_or, position, slice_get, Option, Some, None, IsTrue, refl, sym, ap, ◌∙◌, inl, inr, ◌⊎◌, arith}
+use Rattle.std.proofs.Common.{◌≡◌, ℕ, suc, ◌+◌, ◌-◌, ◌<◌, ◌≤◌, Bool, true, false, cond, not, ◌&&◌, leb, List, [], ◌∷◌, length, get_or, position, slice_get, Option, Some, None, IsTrue, refl, sym, ap, ◌∙◌, inl, inr, ◌⊎◌, arith}
 use Rattle.std.specs.List.{list_all, position_or_len}
 use Rattle.std.specs.Option.{option_map_or}
-use Rattle.std.proofs.lemmas.Bool.{cases_lt, cases_order, lt-ltb, le-ltb, le-leb, both_ways, not-true}
+use Rattle.std.proofs.lemmas.Bool.{cases_lt, cases_order, lt-ltb, le-ltb, le-leb, both_ways, not-true, and_parts, leb-true}
 use Rattle.std.proofs.lemmas.Option.{slice_get-get_or, slice_get_cases}
 use Rattle.std.proofs.lemmas.List.Quantifiers.{position-Some}
 use Rattle.std.proofs.lemmas.List.Sums.{AllPass-from_list_all}
@@ -120,3 +120,17 @@ is_program list e = elim (cases_lt 256 (length list)) [
   | inl long ↦ absurd (let e2 : Some 256 ≡ None = rw (lt-ltb 256 (length list) long) at e in cc)
   | inr short ↦ good_list list (first_bad list) refl short (rw (le-ltb 256 (length list) short) at e)
 ]
+
+-- a program has no fault
+pub has_no_fault : (list : List Instr) (at : ℕ) → IsTrue (program_ok list) → first_fault list ≡ Some at → ⊥
+has_no_fault list at ok e =
+    let parts = and_parts (leb 1 (length list) && leb (length list) 256 && list_all (λ i. target_ok (length list) i) list) (ends_well list) ok in
+    let more = and_parts (leb 1 (length list) && leb (length list) 256) (list_all (λ i. target_ok (length list) i) list) parts.0 in
+    let short = leb-true (length list) 256 (and_parts (leb 1 (length list)) (leb (length list) 256) more.0).1 in
+    elim (fault_is list at e) [
+      | inl long ↦ absurd (omega (arith, long.0, short))
+      | inr short_list ↦ elim short_list.1 [
+        | inl least ↦ none_bad list at more.1 least.here
+        | inr end ↦ both_ways (ends_well list) end.end parts.1
+      ]
+    ]

@@ -1,6 +1,6 @@
 //! Programs.
 
-ghost use Rattle.std.specs.Prelude.{◌≡◌, ◌≤◌, ℕ, not, length, position, slice_get, IsTrue, IfOk, MatchResult, Ok, Err, ◌↔◌, Some, None};
+ghost use Rattle.std.specs.Prelude.{◌≡◌, ◌≤◌, ℕ, not, length, position, slice_get, IsTrue, IfOk, IsOk, MatchResult, Ok, Err, ◌↔◌, Some, None};
 ghost use Rattle.std.specs.Result.{result_err};
 ghost use Rattle.std.specs.Option.{option_map};
 ghost use Rattle.script_lang.specs.Program.{target_ok, is_last, program_ok};
@@ -93,6 +93,7 @@ impl Program {
     /// The program of these instructions, or the place of their first fault.
     pub fn new(list: Vec<Instr>) -> Result<Program, ProgramError>
         ensures program { IfOk result (λ p. (p ≡ list.items) × IsTrue (program_ok p)) }
+        ensures accepted { IsTrue (program_ok list.items) ↔ IsOk result }
         ensures fault { (at : ℕ) → (result ≡ Err (ProgramError.Fault at)) ↔ IsFirstFault list.items at }
     {
         match find_fault(list.as_slice()) {
