@@ -1,4 +1,5 @@
-pub mod LabelText
 pub mod Written
 pub mod Valid
 pub mod Narrow
+pub mod Place
+pub mod Steps

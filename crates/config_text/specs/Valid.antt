@@ -8,6 +8,8 @@ use Rattle.lists.specs.Lists.{below}
 use Rattle.labels.specs.Label.{Label, ClassEntry, at_or_below}
 use Rattle.rings.specs.Brackets.{in_order}
 use Rattle.script_lang.specs.Program.{program_ok}
+use Rattle.script_lang.specs.declared.instr.Instr.{Instr}
+use Rattle.script_lang.specs.declared.instr.Instr.TheVariants as I
 use Rattle.config_text.specs.declared.config.Pool.{Pool}
 use Rattle.config_text.specs.declared.config.Script.{Script}
 use Rattle.config_text.specs.declared.config.GateLine.{GateLine}
@@ -60,8 +62,41 @@ header_ok k = within 1 4 k.processors && within 1 4096 k.rounds && within 1 256 
 abbrev pub cycle_ok : Config → Bool
 cycle_ok k = within 1 16 (length k.cycle) && list_all (is_class k) k.cycle
 
+-- the numbers are those of registers
+abbrev pub are_registers : List ℕ → Bool
+are_registers numbers = list_all (λ n. nat_lt n 16) numbers
+
+-- registers, places of scripts and gates, and the number of `set` are within their ranges; targets are in `program_ok`
+abbrev pub instr_ok : Instr → Bool
+instr_ok I.Halt = true
+instr_ok (I.Set a n) = are_registers (a ∷ []) && nat_lt n 18446744073709551616
+instr_ok (I.Copy a b) = are_registers (a ∷ b ∷ [])
+instr_ok (I.Add a b) = are_registers (a ∷ b ∷ [])
+instr_ok (I.Sub a b) = are_registers (a ∷ b ∷ [])
+instr_ok (I.Jump to) = true
+instr_ok (I.JumpZ a to) = are_registers (a ∷ [])
+instr_ok (I.JumpL a b to) = are_registers (a ∷ b ∷ [])
+instr_ok (I.Get a b) = are_registers (a ∷ b ∷ [])
+instr_ok (I.Put a b) = are_registers (a ∷ b ∷ [])
+instr_ok (I.Call g) = nat_lt g 32
+instr_ok I.Ret = true
+instr_ok (I.Spawn s b) = nat_lt s 32 && are_registers (b ∷ [])
+instr_ok (I.MakeKnown a b c) = are_registers (a ∷ b ∷ c ∷ [])
+instr_ok (I.Terminate a) = are_registers (a ∷ [])
+instr_ok (I.Create a b c d e) = are_registers (a ∷ b ∷ c ∷ d ∷ e ∷ [])
+instr_ok (I.Delete a b) = are_registers (a ∷ b ∷ [])
+instr_ok (I.SwapIn a) = are_registers (a ∷ [])
+instr_ok (I.SwapOut a) = are_registers (a ∷ [])
+instr_ok (I.Fetch a b c d) = are_registers (a ∷ b ∷ c ∷ d ∷ [])
+instr_ok (I.Update a b c d) = are_registers (a ∷ b ∷ c ∷ d ∷ [])
+instr_ok (I.Read a) = are_registers (a ∷ [])
+instr_ok (I.Await a b) = are_registers (a ∷ b ∷ [])
+instr_ok (I.Advance a) = are_registers (a ∷ [])
+instr_ok (I.Ticket a) = are_registers (a ∷ [])
+instr_ok (I.Out a) = are_registers (a ∷ [])
+
 abbrev pub script_ok : Config → Script → Bool
-script_ok k s = is_class k s.class && program_ok s.program
+script_ok k s = is_class k s.class && program_ok s.program && list_all instr_ok s.program
 
 -- the script is there, and its class is at or below class d
 abbrev pub uses_script : Config → ℕ → ℕ → Bool
@@ -85,7 +120,7 @@ events_of k (item.Sweep n) = n * k.quantum * k.processors
 
 abbrev pub item_ok : Config → Item → Bool
 item_ok k (item.Events p c n) = nat_lt p k.processors && is_class k c && within 1 max_events n
-item_ok k (item.Mix x n) = within 1 max_events n
+item_ok k (item.Mix x n) = nat_lt x 18446744073709551616 && within 1 max_events n
 item_ok k (item.Sweep n) = within 1 max_events n
 
 -- a valid configuration

@@ -4,7 +4,7 @@ use Rattle.std.specs.List.{flat_map}
 use Rattle.std.specs.Fmt.{decimal}
 use Rattle.text_lines.specs.Printed.{spaced, printed}
 use Rattle.labels.specs.Label.{Label, ClassEntry}
-use Rattle.config_text.specs.LabelText.{label_text}
+use Rattle.labels.specs.Spelling.{label_text}
 use Rattle.rings.specs.Brackets.{Brackets}
 use Rattle.script_lang.specs.declared.instr.Instr.{Instr}
 use Rattle.script_lang.specs.declared.instr.Instr.TheVariants as I
@@ -147,3 +147,15 @@ texts_of lines = map (λ words. map word_text words) lines
 -- the text of a configuration
 abbrev pub written : Config → List ℕ
 written k = printed (texts_of (config_lines k))
+
+-- a line with its line feed
+abbrev pub ended : List Word → List ℕ
+ended words = line_text words ++ 10 ∷ []
+
+-- a word and a number, each with a blank in front
+abbrev pub named : List ℕ → ℕ → List ℕ
+named word n = 32 ∷ (word ++ 32 ∷ decimal n)
+
+-- numbers, each with a blank in front
+abbrev pub blank_numbers : List ℕ → List ℕ
+blank_numbers numbers = flat_map (λ n. 32 ∷ decimal n) numbers

@@ -2,5 +2,10 @@
 #![tactic(auto)]
 
 mod config;
+mod draft;
+mod fault;
+mod printing;
+mod words;
 
 pub use config::{Config, GateLine, Item, Pool, ProcessLine, Script};
+pub use fault::ConfigError;
