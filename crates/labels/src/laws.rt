@@ -1,7 +1,8 @@
 //! What holds of the order of labels, and of their texts.
 
-ghost use Rattle.std.specs.Prelude.{◌≡◌, ◌↔◌, IsTrue, List, ℕ};
-ghost use Rattle.labels.specs.Label.{Label, secrecy_at_least, integrity_at_least, dominates};
+ghost use Rattle.std.specs.Prelude.{◌≡◌, ◌↔◌, IsTrue, List, ℕ, ◌<◌, length};
+ghost use Rattle.labels.specs.Label.{Label, ClassEntry, secrecy_at_least, integrity_at_least, dominates, at_or_below};
+ghost use Rattle.labels.specs.Table.{IsTable};
 ghost use Rattle.labels.specs.Order.{SecrecyDominates, IntegrityDominates, Dominates, IsLabel};
 ghost use Rattle.labels.specs.Text.{Spells, IsAnswer};
 ghost use Rattle.labels.specs.Spelling.{label_text};
@@ -29,4 +30,13 @@ pub fn text_laws()
     ensures spelled { (l : Label) → IsLabel l → Spells (label_text l) l }
     ensures one { (text : List ℕ) (l : Label) → Spells text l → text ≡ label_text l }
     ensures read { (text : List ℕ) → IsAnswer text (read_label text) }
+{}
+
+/// The classes of a table are partly ordered, and class 0 is at or below each.
+#[tactic(auto, using(crate::proofs::Tables::classes))]
+pub fn class_laws()
+    ensures reflexive { (table : List ClassEntry) (c : ℕ) → IsTrue (at_or_below table c c) }
+    ensures transitive { (table : List ClassEntry) (c d e : ℕ) → IsTrue (at_or_below table c d) → IsTrue (at_or_below table d e) → IsTrue (at_or_below table c e) }
+    ensures antisymmetric { (table : List ClassEntry) → IsTable table → (c d : ℕ) → c < length table → d < length table → IsTrue (at_or_below table c d) → IsTrue (at_or_below table d c) → c ≡ d }
+    ensures lowest { (table : List ClassEntry) → IsTable table → (c : ℕ) → c < length table → IsTrue (at_or_below table 0 c) }
 {}
