@@ -3,3 +3,8 @@ pub mod Taking
 pub mod TakenWords
 pub mod Taken
 pub mod Pieces
+pub mod Joined
+pub mod PlainLines
+pub mod Fitting
+pub mod Checks
+pub mod Exits

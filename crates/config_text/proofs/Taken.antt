@@ -14,20 +14,21 @@ use Rattle.script_lang.specs.declared.instr.Instr.{Instr}
 use Rattle.script_lang.specs.declared.instr.Instr.TheVariants as I
 use Rattle.config_text.specs.declared.config.Pool.{Pool}
 use Rattle.config_text.specs.declared.config.Script.{Script}
+use Rattle.config_text.specs.declared.config.GateLine.{GateLine}
 use Rattle.config_text.specs.declared.config.ProcessLine.{ProcessLine}
 use Rattle.config_text.specs.declared.config.Item.{Item}
 use Rattle.config_text.specs.declared.config.Item.TheVariants as item
 use Rattle.config_text.specs.declared.config.Config.{Config}
 use Rattle.config_text.specs.declared.draft.Stage.{Stage}
 use Rattle.config_text.specs.declared.draft.Stage.TheVariants as stage
-use Rattle.config_text.specs.Written.{Word, word_text, header_lines, number_lines, class_line, class_lines, script_lines, instr_line, process_line, item_line, end_line, texts_of, config_lines}
+use Rattle.config_text.specs.Written.{Word, word_text, header_lines, number_lines, class_line, class_lines, script_lines, instr_line, process_line, item_line, end_line, gate_line, front_lines, texts_of, config_lines}
 use Rattle.config_text.specs.Valid.{pool_ok, instr_ok}
 use Rattle.config_text.specs.Narrow.{is_narrow_instr, is_narrow_item, is_narrow_script}
 use Rattle.config_text.specs.Place.{Place, start}
 use Rattle.config_text.specs.Steps.{Text, step, steps, ◌>>=◌, value_below, bytes_from, entry_in, pool_in, process_in, event_in}
 use Rattle.config_text.proofs.TakenWords.{decimal_value, numbers_taken, entry_taken, pool_taken, process_taken, event_taken}
 
-abbrev place_is : Place → Option Place
+abbrev pub place_is : Place → Option Place
 place_is p = Some p
 
 -- ---- lines in a row
@@ -45,10 +46,10 @@ steps_then p q (x ∷ xs) ys e =
 abbrev at_classes : ℕ → List ClassEntry → List Pool → Place
 at_classes due table pools = record start { stage = stage.Classes; due = due; table = table; pools = pools }
 
-abbrev at_processors : List ClassEntry → List Pool → Place
+abbrev pub at_processors : List ClassEntry → List Pool → Place
 at_processors table pools = record start { stage = stage.Processors; due = 0; table = table; pools = pools }
 
-abbrev at_body : Config → List Script → List ProcessLine → List Item → Place
+abbrev pub at_body : Config → List Script → List ProcessLine → List Item → Place
 at_body k scripts processes schedule = record {
   stage = stage.Body; due = 0; table = k.table; pools = k.pools; processors = k.processors; cycle = k.cycle; rounds = k.rounds; quantum = k.quantum;
   console = k.console; script_class = 0; instrs = []; scripts = scripts; processes = processes; schedule = schedule }
@@ -59,14 +60,14 @@ at_script k scripts class instrs = record (at_body k scripts [] []) { stage = st
 -- ---- classes
 
 -- what a class and its pool must be to be read again
-record Fits (c : ClassEntry) (p : Pool) : Type 0 where
-  named : is_name c.name ≡ true
-  label : IsLabel c.label
-  frames : p.frames < 256
-  pages : p.pages < 256
-  volume : p.volume < 256
+pub record Fits (c : ClassEntry) (p : Pool) : Type 0 where
+  pub named : is_name c.name ≡ true
+  pub label : IsLabel c.label
+  pub frames : p.frames < 256
+  pub pages : p.pages < 256
+  pub volume : p.volume < 256
 
-abbrev AllFit : List ClassEntry → List Pool → Type 0
+abbrev pub AllFit : List ClassEntry → List Pool → Type 0
 AllFit [] [] = Unit {0}
 AllFit (c ∷ cs) (p ∷ ps) = Fits c p × AllFit cs ps
 AllFit _ _ = ⊥
@@ -96,12 +97,12 @@ header_taken k some few fit = rw (decimal_value 256 (length k.table) (omega arit
 
 -- ---- the numbers
 
-record HeaderFits (k : Config) : Type 0 where
-  processors : k.processors < 256
-  cycle : AllByRecursion (λ n. n < 256) k.cycle
-  rounds : k.rounds < 2 ^ 32
-  quantum : k.quantum < 2 ^ 32
-  console : k.console < 2 ^ 32
+pub record HeaderFits (k : Config) : Type 0 where
+  pub processors : k.processors < 256
+  pub cycle : AllByRecursion (λ n. n < 256) k.cycle
+  pub rounds : k.rounds < 2 ^ 32
+  pub quantum : k.quantum < 2 ^ 32
+  pub console : k.console < 2 ^ 32
 
 numbers_are_taken : (k : Config) → HeaderFits k → steps (at_processors k.table k.pools) (texts_of (number_lines k)) ≡ place_is (at_body k [] [] [])
 unfolding step
@@ -155,11 +156,11 @@ instrs_taken k ss c seen (i ∷ is) narrow ok =
     let o = and_parts (instr_ok i) (list_all instr_ok is) ok in
     rw (instr_taken k ss c seen i n.0 o.0, instrs_taken k ss c (seen ++ i ∷ []) is n.1 o.1, append_assoc seen (i ∷ []) is) refl
 
-record ScriptFits (s : Script) : Type 0 where
-  class : s.class < 256
-  program : program_ok s.program ≡ true
-  ranges : list_all instr_ok s.program ≡ true
-  narrow : list_all is_narrow_instr s.program ≡ true
+pub record ScriptFits (s : Script) : Type 0 where
+  pub class : s.class < 256
+  pub program : program_ok s.program ≡ true
+  pub ranges : list_all instr_ok s.program ≡ true
+  pub narrow : list_all is_narrow_instr s.program ≡ true
 
 script_begun : (k : Config) (ss : List Script) (c : ℕ) → c < 256 → step (at_body k ss [] []) (codes "script" ∷ decimal c ∷ []) ≡ place_is (at_script k ss c [])
 unfolding step
@@ -178,17 +179,17 @@ script_taken k ss s fits =
 scripts_taken : (k : Config) (ss more : List Script) → AllByRecursion ScriptFits more → steps (at_body k ss [] []) (texts_of (flat_map script_lines more)) ≡ place_is (at_body k (ss ++ more) [] [])
 scripts_taken k ss [] fit = ap (λ (l : List Script). place_is (at_body k l [] [])) (sym (append-nil ss))
 scripts_taken k ss (s ∷ more) fit =
-    rw (map-append (λ (ws : List Word). map word_text ws) (script_lines s) (flat_map script_lines more))
-       (steps_then (at_body k ss [] []) (at_body k (ss ++ s ∷ []) [] []) (texts_of (script_lines s)) (texts_of (flat_map script_lines more)) (script_taken k ss s fit.0)
-        ∙ scripts_taken k (ss ++ s ∷ []) more fit.1 ∙ ap (λ (l : List Script). place_is (at_body k l [] [])) (append_assoc ss (s ∷ []) more))
+    ap (steps (at_body k ss [] [])) (map-append (λ (ws : List Word). map word_text ws) (script_lines s) (flat_map script_lines more))
+    ∙ steps_then (at_body k ss [] []) (at_body k (ss ++ s ∷ []) [] []) (texts_of (script_lines s)) (texts_of (flat_map script_lines more)) (script_taken k ss s fit.0)
+    ∙ scripts_taken k (ss ++ s ∷ []) more fit.1 ∙ ap (λ (l : List Script). place_is (at_body k l [] [])) (append_assoc ss (s ∷ []) more)
 
 -- ---- processes and items
 
-record ProcessFits (p : ProcessLine) : Type 0 where
-  processor : p.processor < 256
-  class : p.class < 256
-  script : p.script < 256
-  ring : p.ring < 8
+pub record ProcessFits (p : ProcessLine) : Type 0 where
+  pub processor : p.processor < 256
+  pub class : p.class < 256
+  pub script : p.script < 256
+  pub ring : p.ring < 8
 
 line_taken : (k : Config) (ps : List ProcessLine) (p : ProcessLine) → ProcessFits p → step (at_body k k.scripts ps []) (map word_text (process_line p)) ≡ place_is (at_body k k.scripts (ps ++ p ∷ []) [])
 unfolding step
@@ -198,7 +199,7 @@ processes_taken : (k : Config) (ps more : List ProcessLine) → AllByRecursion P
 processes_taken k ps [] fit = ap (λ (l : List ProcessLine). place_is (at_body k k.scripts l [])) (sym (append-nil ps))
 processes_taken k ps (p ∷ more) fit = rw (line_taken k ps p fit.0, processes_taken k (ps ++ p ∷ []) more fit.1, append_assoc ps (p ∷ []) more) refl
 
-abbrev ItemFits : Item → Type 0
+abbrev pub ItemFits : Item → Type 0
 ItemFits (item.Events p c n) = (p < 256) × (c < 256) × (n < 2 ^ 32)
 ItemFits (item.Mix x n) = ⊥
 ItemFits (item.Sweep n) = ⊥
@@ -216,3 +217,54 @@ items_taken k is (i ∷ more) fit = rw (item_taken k is i fit.0, items_taken k (
 end_taken : (k : Config) → steps (at_body k k.scripts k.processes k.schedule) (texts_of (end_line ∷ [])) ≡ place_is (at_body k k.scripts k.processes k.schedule)
 unfolding step
 end_taken k = refl
+
+-- all lines, from the start to the configuration
+pub record AllFits (k : Config) : Type 0 where
+  pub some : 1 ≤ length k.table
+  pub few : length k.table ≤ 16
+  pub classes : AllFit k.table k.pools
+  pub header : HeaderFits k
+  pub scripts : AllByRecursion ScriptFits k.scripts
+  pub gates : k.gates ≡ []
+  pub processes : AllByRecursion ProcessFits k.processes
+  pub items : AllByRecursion ItemFits k.schedule
+
+abbrev texts : List (List Word) → List (List Text)
+texts ls = texts_of ls
+
+two_parts : (xs ys : List (List Word)) → texts_of (xs ++ ys) ≡ texts xs ++ texts ys
+two_parts xs ys = map-append (λ (ws : List Word). map word_text ws) xs ys
+
+front_taken : (k : Config) → AllFits k → steps start (texts_of (front_lines k)) ≡ place_is (at_body k [] [] [])
+front_taken k fits =
+    ap (steps start) (two_parts (header_lines k) (number_lines k))
+    ∙ steps_then start (at_processors k.table k.pools) (texts (header_lines k)) (texts (number_lines k)) (header_taken k fits.some fits.few fits.classes)
+    ∙ numbers_are_taken k fits.header
+
+back_lines : Config → List (List Word)
+back_lines k = map process_line k.processes ++ (map item_line k.schedule ++ end_line ∷ [])
+
+back_taken : (k : Config) → AllFits k → steps (at_body k k.scripts [] []) (texts (back_lines k)) ≡ place_is (at_body k k.scripts k.processes k.schedule)
+unfolding back_lines
+back_taken k fits =
+    ap (steps (at_body k k.scripts [] [])) (two_parts (map process_line k.processes) (map item_line k.schedule ++ end_line ∷ []))
+    ∙ steps_then (at_body k k.scripts [] []) (at_body k k.scripts k.processes []) (texts (map process_line k.processes)) (texts (map item_line k.schedule ++ end_line ∷ [])) (processes_taken k [] k.processes fits.processes)
+    ∙ ap (steps (at_body k k.scripts k.processes [])) (two_parts (map item_line k.schedule) (end_line ∷ []))
+    ∙ steps_then (at_body k k.scripts k.processes []) (at_body k k.scripts k.processes k.schedule) (texts (map item_line k.schedule)) (texts (end_line ∷ [])) (items_taken k [] k.schedule fits.items)
+    ∙ end_taken k
+
+abbrev lines_with : Config → List GateLine → List (List Word)
+lines_with k gates = front_lines k ++ (flat_map script_lines k.scripts ++ (map gate_line gates ++ back_lines k))
+
+lines_taken : (k : Config) → AllFits k → steps start (texts (lines_with k [])) ≡ place_is (at_body k k.scripts k.processes k.schedule)
+lines_taken k fits =
+    ap (steps start) (two_parts (front_lines k) (flat_map script_lines k.scripts ++ back_lines k))
+    ∙ steps_then start (at_body k [] [] []) (texts (front_lines k)) (texts (flat_map script_lines k.scripts ++ back_lines k)) (front_taken k fits)
+    ∙ ap (steps (at_body k [] [] [])) (two_parts (flat_map script_lines k.scripts) (back_lines k))
+    ∙ steps_then (at_body k [] [] []) (at_body k k.scripts [] []) (texts (flat_map script_lines k.scripts)) (texts (back_lines k)) (scripts_taken k [] k.scripts fits.scripts)
+    ∙ back_taken k fits
+
+-- The written lines lead to the configuration.
+pub all_taken : (k : Config) → AllFits k → steps start (texts_of (config_lines k)) ≡ place_is (at_body k k.scripts k.processes k.schedule)
+unfolding back_lines
+all_taken k fits = ap (λ (gs : List GateLine). steps start (texts (lines_with k gs))) fits.gates ∙ lines_taken k fits

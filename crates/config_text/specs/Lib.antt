@@ -3,3 +3,4 @@ pub mod Valid
 pub mod Narrow
 pub mod Place
 pub mod Steps
+pub mod Answer

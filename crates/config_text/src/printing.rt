@@ -6,7 +6,7 @@ ghost use Rattle.std.specs.List.{list_all, flat_map};
 ghost use Rattle.text_lines.specs.Printed.{printed};
 ghost use Rattle.labels.specs.Label.{class_at};
 ghost use Rattle.config_text.specs.Written as spec;
-ghost use Rattle.config_text.specs.Written.{texts_of, written};
+ghost use Rattle.config_text.specs.Written.{texts_of};
 ghost use Rattle.config_text.specs.Narrow.{is_narrow_instr, is_narrow_script, is_narrow_item};
 
 use crate::config::{Config, Item, Pool, ProcessLine, Script};
@@ -39,41 +39,30 @@ fn push_number_line(
     Ok(())
 }
 
-/// Writes a word between blanks, and a number.
+/// Writes the front of the line of a class: its name and label.
 #[tactic(auto, using(crate::proofs::Pieces::pieces))]
-fn push_named(
-    alloc: Global,
-    out: &mut Vec<u8>,
-    word: &[u8],
-    n: u64,
-) -> Result<(), AllocError>
-    ensures { OnOk result (out.new.items ≡ out.old.items ++ spec.named word.now n) }
+fn push_class(out: &mut Vec<u8>, name: &str, label: &Label) -> Result<(), AllocError>
+    ensures { OnOk result (out.new.items ≡ out.old.items ++ spec.class_text name.now label.now) }
 {
-    out.push(b' ')?;
-    out.extend_from_slice(word)?;
-    out.push(b' ')?;
-    push_number(alloc, out, n)
-}
-
-/// Writes the line of a class with its pool.
-#[tactic(auto, using(crate::proofs::Pieces::pieces))]
-fn push_class(
-    alloc: Global,
-    out: &mut Vec<u8>,
-    name: &str,
-    label: &Label,
-    pool: &Pool,
-) -> Result<(), AllocError>
-    ensures { OnOk result (out.new.items ≡ out.old.items ++ spec.ended (spec.class_line (record { name = name.now; label = label.now }) pool.now)) }
-{
+    let text = label.text();
     out.extend_from_slice(b"class ")?;
     out.extend_from_slice(name.as_bytes())?;
     out.push(b' ')?;
-    let text = label.text();
     out.extend_from_slice(text.as_str().as_bytes())?;
-    push_named(alloc, out, b"frames", u64::from(pool.frames))?;
-    push_named(alloc, out, b"pages", u64::from(pool.pages))?;
-    push_named(alloc, out, b"volume", u64::from(pool.volume))?;
+    Ok(())
+}
+
+/// Writes the rest of the line of a class: its pool.
+#[tactic(auto, using(crate::proofs::Pieces::pieces))]
+fn push_pool(alloc: Global, out: &mut Vec<u8>, pool: &Pool) -> Result<(), AllocError>
+    ensures { OnOk result (out.new.items ≡ out.old.items ++ spec.pool_text pool.now) }
+{
+    out.extend_from_slice(b" frames ")?;
+    push_number(alloc, out, u64::from(pool.frames))?;
+    out.extend_from_slice(b" pages ")?;
+    push_number(alloc, out, u64::from(pool.pages))?;
+    out.extend_from_slice(b" volume ")?;
+    push_number(alloc, out, u64::from(pool.volume))?;
     out.push(b'\n')?;
     Ok(())
 }
@@ -89,13 +78,14 @@ fn push_classes(
     ensures { OnOk result (out.new.items ≡ out.old.items ++ printed (texts_of (spec.class_lines table.now pools.now))) }
 {
     for class in 0..table.count() {
-        let pool = &pools[class as usize];
-        push_class(alloc, out, table.name(class), table.label(class), pool)?;
+        push_class(out, table.name(class), table.label(class))?;
+        push_pool(alloc, out, &pools[class as usize])?;
     }
     Ok(())
 }
 
 /// Writes the line of the cycle.
+#[tactic(auto, using(crate::proofs::Pieces::cycles))]
 fn push_cycle(alloc: Global, out: &mut Vec<u8>, cycle: &[u8]) -> Result<(), AllocError>
     ensures { OnOk result (out.new.items ≡ out.old.items ++ spec.ended (spec.cycle_line cycle.now)) }
 {
@@ -145,13 +135,15 @@ fn push_instrs(alloc: Global, out: &mut Vec<u8>, instrs: &[Instr]) -> Result<(),
 }
 
 /// Writes a script.
+#[tactic(auto, using(crate::proofs::Pieces::scripts))]
 fn push_script(alloc: Global, out: &mut Vec<u8>, script: &Script) -> Result<(), AllocError>
     requires { is_narrow_script script.now ≡ true }
     ensures { OnOk result (out.new.items ≡ out.old.items ++ printed (texts_of (spec.script_lines script.now))) }
 {
     push_number_line(alloc, out, b"script", u64::from(script.class))?;
     push_instrs(alloc, out, script.program.list())?;
-    out.extend_from_slice(b"end\n")
+    out.extend_from_slice(b"end\n")?;
+    Ok(())
 }
 
 /// Writes the scripts.
@@ -236,4 +228,36 @@ fn push_items(alloc: Global, out: &mut Vec<u8>, items: &[Item]) -> Result<(), Al
         push_item(alloc, out, item)?;
     }
     Ok(())
+}
+
+/// Writes the lines before the scripts.
+fn push_header(alloc: Global, out: &mut Vec<u8>, config: &Config) -> Result<(), AllocError>
+    requires { length config.now.pools ≡ length config.now.table }
+    ensures { OnOk result (out.new.items ≡ out.old.items ++ printed (texts_of (spec.front_lines config.now))) }
+{
+    out.extend_from_slice(b"gemkernel 1\n")?;
+    push_number_line(alloc, out, b"classes", u64::from(config.table.count()))?;
+    push_classes(alloc, out, &config.table, config.pools.as_slice())?;
+    push_number_line(alloc, out, b"processors", u64::from(config.processors))?;
+    push_cycle(alloc, out, config.cycle.as_slice())?;
+    push_number_line(alloc, out, b"rounds", u64::from(config.rounds))?;
+    push_number_line(alloc, out, b"quantum", u64::from(config.quantum))?;
+    push_number_line(alloc, out, b"console", u64::from(config.console))?;
+    Ok(())
+}
+
+/// The text of a configuration of the narrow form.
+pub fn written(alloc: Global, config: &Config) -> Result<Vec<u8>, AllocError>
+    requires pools { length config.now.pools ≡ length config.now.table }
+    requires gates { config.now.gates ≡ [] }
+    requires scripts { list_all is_narrow_script config.now.scripts ≡ true }
+    ensures { IfOk result (λ t. t.items ≡ spec.written config.now) }
+{
+    let mut out = Vec::new(alloc);
+    push_header(alloc, &mut out, config)?;
+    push_scripts(alloc, &mut out, config.scripts.as_slice())?;
+    push_processes(alloc, &mut out, config.processes.as_slice())?;
+    push_items(alloc, &mut out, config.schedule.as_slice())?;
+    out.extend_from_slice(b"end\n")?;
+    Ok(out)
 }
