@@ -2,12 +2,13 @@
 use Rattle.std.specs.Prelude.{ℕ, ◌≡◌, ◌*◌, ◌<◌, ◌≤◌, Bool, true, false, not, ◌&&◌, List, [], ◌∷◌, ◌==◌, nat_le, nat_lt, length, count_by, IsTrue, slice_get}
 use Rattle.std.specs.List.{list_all, sum_by}
 use Rattle.std.specs.Option.{option_map_or}
-use Rattle.std.specs.Str.{bytes_eq}
 use Rattle.text_lines.specs.Name.{is_name}
-use Rattle.lists.specs.Lists.{below}
-use Rattle.labels.specs.Label.{Label, ClassEntry, at_or_below}
+use Rattle.labels.specs.Label.{class_at, at_or_below}
+use Rattle.labels.specs.Table.{IsTable}
 use Rattle.rings.specs.Brackets.{in_order}
 use Rattle.script_lang.specs.Program.{program_ok}
+use Rattle.script_lang.specs.declared.instr.Instr.{Instr}
+use Rattle.script_lang.specs.declared.instr.Instr.TheVariants as I
 use Rattle.config_text.specs.declared.config.Pool.{Pool}
 use Rattle.config_text.specs.declared.config.Script.{Script}
 use Rattle.config_text.specs.declared.config.GateLine.{GateLine}
@@ -19,23 +20,6 @@ use Rattle.config_text.specs.declared.config.Config.{Config}
 -- a number from low to high
 abbrev pub within : ℕ → ℕ → ℕ → Bool
 within low high n = nat_le low n && nat_le n high
-
--- two labels are equal
-abbrev pub same_label : Label → Label → Bool
-same_label a b = a.secrecy_level == b.secrecy_level && a.secrecy_cats == b.secrecy_cats && a.integrity_level == b.integrity_level && a.integrity_cats == b.integrity_cats
-
-abbrev pub label_in_range : Label → Bool
-label_in_range a = nat_le a.secrecy_level 15 && nat_lt a.secrecy_cats 4294967296 && nat_le a.integrity_level 15 && nat_lt a.integrity_cats 4294967296
-
--- no later class has the name or the label of an earlier one
-abbrev pub all_distinct : List ClassEntry → Bool
-all_distinct [] = true
-all_distinct (c ∷ cs) = list_all (λ (x : ClassEntry). not (bytes_eq x.name c.name) && not (same_label x.label c.label)) cs && all_distinct cs
-
--- 1 to 16 classes with different names and labels, each label at least that of class 0
-abbrev pub table_ok : List ClassEntry → Bool
-table_ok table = within 1 16 (length table) && list_all (λ (x : ClassEntry). label_in_range x.label && is_name x.name) table &&
-  all_distinct table && list_all (λ c. at_or_below table 0 c) (below (length table))
 
 -- the most events of a schedule
 abbrev pub max_events : ℕ
@@ -60,8 +44,41 @@ header_ok k = within 1 4 k.processors && within 1 4096 k.rounds && within 1 256 
 abbrev pub cycle_ok : Config → Bool
 cycle_ok k = within 1 16 (length k.cycle) && list_all (is_class k) k.cycle
 
+-- the numbers are those of registers
+abbrev pub are_registers : List ℕ → Bool
+are_registers numbers = list_all (λ n. nat_lt n 16) numbers
+
+-- registers, places of scripts and gates, and the number of `set` are within their ranges; targets are in `program_ok`
+abbrev pub instr_ok : Instr → Bool
+instr_ok I.Halt = true
+instr_ok (I.Set a n) = are_registers (a ∷ []) && nat_lt n 18446744073709551616
+instr_ok (I.Copy a b) = are_registers (a ∷ b ∷ [])
+instr_ok (I.Add a b) = are_registers (a ∷ b ∷ [])
+instr_ok (I.Sub a b) = are_registers (a ∷ b ∷ [])
+instr_ok (I.Jump to) = true
+instr_ok (I.JumpZ a to) = are_registers (a ∷ [])
+instr_ok (I.JumpL a b to) = are_registers (a ∷ b ∷ [])
+instr_ok (I.Get a b) = are_registers (a ∷ b ∷ [])
+instr_ok (I.Put a b) = are_registers (a ∷ b ∷ [])
+instr_ok (I.Call g) = nat_lt g 32
+instr_ok I.Ret = true
+instr_ok (I.Spawn s b) = nat_lt s 32 && are_registers (b ∷ [])
+instr_ok (I.MakeKnown a b c) = are_registers (a ∷ b ∷ c ∷ [])
+instr_ok (I.Terminate a) = are_registers (a ∷ [])
+instr_ok (I.Create a b c d e) = are_registers (a ∷ b ∷ c ∷ d ∷ e ∷ [])
+instr_ok (I.Delete a b) = are_registers (a ∷ b ∷ [])
+instr_ok (I.SwapIn a) = are_registers (a ∷ [])
+instr_ok (I.SwapOut a) = are_registers (a ∷ [])
+instr_ok (I.Fetch a b c d) = are_registers (a ∷ b ∷ c ∷ d ∷ [])
+instr_ok (I.Update a b c d) = are_registers (a ∷ b ∷ c ∷ d ∷ [])
+instr_ok (I.Read a) = are_registers (a ∷ [])
+instr_ok (I.Await a b) = are_registers (a ∷ b ∷ [])
+instr_ok (I.Advance a) = are_registers (a ∷ [])
+instr_ok (I.Ticket a) = are_registers (a ∷ [])
+instr_ok (I.Out a) = are_registers (a ∷ [])
+
 abbrev pub script_ok : Config → Script → Bool
-script_ok k s = is_class k s.class && program_ok s.program
+script_ok k s = is_class k s.class && program_ok s.program && list_all instr_ok s.program
 
 -- the script is there, and its class is at or below class d
 abbrev pub uses_script : Config → ℕ → ℕ → Bool
@@ -85,12 +102,14 @@ events_of k (item.Sweep n) = n * k.quantum * k.processors
 
 abbrev pub item_ok : Config → Item → Bool
 item_ok k (item.Events p c n) = nat_lt p k.processors && is_class k c && within 1 max_events n
-item_ok k (item.Mix x n) = within 1 max_events n
+item_ok k (item.Mix x n) = nat_lt x 18446744073709551616 && within 1 max_events n
 item_ok k (item.Sweep n) = within 1 max_events n
 
 -- a valid configuration
 pub record IsValid (k : Config) : Type 0 where
-  pub table : table_ok k.table ≡ true
+  -- 1 to 16 classes with different names and labels, each label at or above that of class 0
+  pub table : IsTable k.table
+  pub names : (c : ℕ) → c < length k.table → is_name (class_at k.table c).name ≡ true
   pub pools : pools_ok k ≡ true
   pub header : header_ok k ≡ true
   pub cycle : cycle_ok k ≡ true
@@ -100,6 +119,6 @@ pub record IsValid (k : Config) : Type 0 where
   pub gates : list_all (gate_ok k) k.gates ≡ true
   pub processes : list_all (process_ok k) k.processes ≡ true
   -- at most four processes of a class on a processor
-  pub few_processes : (p c : ℕ) → processes_of k p c ≤ 4
+  pub few_processes : (p c : ℕ) → p < k.processors → c < length k.table → processes_of k p c ≤ 4
   pub items : list_all (item_ok k) k.schedule ≡ true
   pub few_events : sum_by (events_of k) k.schedule ≤ max_events

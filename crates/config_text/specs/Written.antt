@@ -4,7 +4,7 @@ use Rattle.std.specs.List.{flat_map}
 use Rattle.std.specs.Fmt.{decimal}
 use Rattle.text_lines.specs.Printed.{spaced, printed}
 use Rattle.labels.specs.Label.{Label, ClassEntry}
-use Rattle.config_text.specs.LabelText.{label_text}
+use Rattle.labels.specs.Spelling.{label_text}
 use Rattle.rings.specs.Brackets.{Brackets}
 use Rattle.script_lang.specs.declared.instr.Instr.{Instr}
 use Rattle.script_lang.specs.declared.instr.Instr.TheVariants as I
@@ -134,11 +134,15 @@ number_lines k =
   number_line (codes "processors") k.processors ∷ cycle_line k.cycle ∷ number_line (codes "rounds") k.rounds ∷
   number_line (codes "quantum") k.quantum ∷ number_line (codes "console") k.console ∷ []
 
+-- the lines before the scripts
+abbrev pub front_lines : Config → List (List Word)
+front_lines k = header_lines k ++ number_lines k
+
 -- the lines of a configuration, in their order
 abbrev pub config_lines : Config → List (List Word)
 config_lines k =
-  header_lines k ++ (number_lines k ++ (flat_map script_lines k.scripts ++ (map gate_line k.gates ++
-    (map process_line k.processes ++ (map item_line k.schedule ++ end_line ∷ [])))))
+  front_lines k ++ (flat_map script_lines k.scripts ++ (map gate_line k.gates ++
+    (map process_line k.processes ++ (map item_line k.schedule ++ end_line ∷ []))))
 
 -- the words of lines as they are written
 abbrev pub texts_of : List (List Word) → List (List (List ℕ))
@@ -147,3 +151,19 @@ texts_of lines = map (λ words. map word_text words) lines
 -- the text of a configuration
 abbrev pub written : Config → List ℕ
 written k = printed (texts_of (config_lines k))
+
+-- a line with its line feed
+abbrev pub ended : List Word → List ℕ
+ended words = line_text words ++ 10 ∷ []
+
+-- the front of the line of a class
+abbrev pub class_text : List ℕ → Label → List ℕ
+class_text name l = codes "class " ++ (name ++ 32 ∷ label_text l)
+
+-- the rest of the line of a class
+abbrev pub pool_text : Pool → List ℕ
+pool_text p = codes " frames " ++ (decimal p.frames ++ (codes " pages " ++ (decimal p.pages ++ (codes " volume " ++ (decimal p.volume ++ 10 ∷ [])))))
+
+-- numbers, each with a blank in front
+abbrev pub blank_numbers : List ℕ → List ℕ
+blank_numbers numbers = flat_map (λ n. 32 ∷ decimal n) numbers

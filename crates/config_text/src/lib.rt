@@ -2,5 +2,13 @@
 #![tactic(auto)]
 
 mod config;
+mod draft;
+mod fault;
+mod printing;
+mod reading;
+mod validity;
+mod words;
 
 pub use config::{Config, GateLine, Item, Pool, ProcessLine, Script};
+pub use fault::ConfigError;
+pub use reading::read_config;

@@ -1,0 +1,10 @@
+pub mod NameBytes
+pub mod Taking
+pub mod TakenWords
+pub mod Taken
+pub mod Pieces
+pub mod Joined
+pub mod PlainLines
+pub mod Fitting
+pub mod Checks
+pub mod Exits
