@@ -6,6 +6,8 @@ mod draft;
 mod fault;
 mod printing;
 mod reading;
+#[cfg(test)]
+mod tests;
 mod validity;
 mod words;
 
