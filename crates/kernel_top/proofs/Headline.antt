@@ -33,7 +33,7 @@ use Rattle.kernel_top.proofs.ThinSections.{seen_is, seen_words_is, live_is}
 
 -- both machines after a list of events
 module _ (k : Config) (t : ThinFacts k) (events : List Event) (first : on_first events ≡ true) (few : length events < 2 ^ 63) where
-  abbrev class_runs : ℕ → ClassRun
+  abbrev pub class_runs : ℕ → ClassRun
   class_runs d = class_after (shared_of k) d (count_of d events) (class_opening k d)
 
   pub both : Together k (0 + length events) (machine k events) (run k (effects k events)) class_runs

@@ -1,6 +1,6 @@
 -- The part of a class of each machine, for a class that runs by itself, and what a step does to it.
 use Rattle.std.proofs.Common.{ℕ, suc, ◌+◌, ◌%◌, ◌^◌, ◌≤◌, Bool, true, false, List, [], ◌∷◌, ◌++◌, ◌≡◌, refl, sym, ap, ◌∙◌, Option, Some, None, arith, length}
-use Rattle.std.specs.Prelude.{◌==◌, if◌then◌else◌, nat_lt, slice_index_or, slice_set}
+use Rattle.std.specs.Prelude.{◌==◌, if◌then◌else◌, nat_lt, slice_index_or, slice_set, is_some}
 use Rattle.std.specs.List.{enumerate_from}
 use Rattle.std.specs.Option.{option_map}
 use Rattle.lists.specs.Lists.{put}
@@ -13,8 +13,8 @@ use Rattle.class_model.specs.Process.{Process, ProcName, settled, answered, refu
 use Rattle.class_model.specs.Plan.{Plan, Own, Ask, Out, plan, plan_of}
 use Rattle.class_model.specs.Run.{opening_cell, opening_serial}
 use Rattle.class_model.specs.State.{State, Part, process_at, with_process, with_part}
-use Rattle.class_model.specs.Step.{deed_of, deed_by, out_effect, done}
-use Rattle.class_model.specs.Step.{step as state_step}
+use Rattle.class_model.specs.Step.{deed, deed_of, deed_by, out_effect, done}
+use Rattle.class_model.specs.Step.{deed, step as state_step}
 use Rattle.process.specs.Running.{Running, absorb, next_op}
 use Rattle.machine.specs.Machine.{ClassPart, VirtualProcessor, chosen, free_slot, vp_absorbed, vp_chosen, effect_chosen, effect_slot, part_step, part_effect}
 use Rattle.machine.specs.Opening.{opening_words, at_rest}
@@ -194,6 +194,11 @@ module _ (k : Config) (a : State) (d : ℕ) (p : Process) (lines : List ℕ) (us
     -- no step of a process that has ended
     pub not_live : p.live ≡ false → state_step a (name_of d) ≡ a
     not_live h = ap (λ o. done a d (deed_by a (name_of d) o)) there ∙ rw h refl
+
+    -- a live process makes a step
+    pub makes_step : p.live ≡ true → is_some (deed a (name_of d)) ≡ true
+    makes_step h = ap (λ o. is_some (deed_by a (name_of d) o)) there
+      ∙ ap (λ b. is_some (if b then Some (deed_of a (name_of d) p (plan a.shared d p)) else None)) h
 
     -- the step by its plan
     by_plan : (x : Plan) → p.live ≡ true → plan a.shared d p ≡ x → state_step a (name_of d) ≡ with_part a d (deed_of a (name_of d) p x).part

@@ -12,8 +12,8 @@ use Rattle.class_model.specs.Run.{steps}
 use Rattle.class_model.specs.State.{State, Part, with_part}
 use Rattle.machine.specs.Machine.{Machine, ClassPart, chosen, words_of, part_step, part_effect, effect_at, step, run, order_of_effect}
 use Rattle.kernel_top.specs.Alone.{ClassRun, planned, printed, class_step, class_after}
-use Rattle.kernel_top.specs.Thin.{is_simple, on_first, count_of}
-use Rattle.kernel_top.proofs.ThinParts.{own_vp, class_part, class_state, IsSimplePlan, simple_plan, part_taken, part_step-taken, effect_taken, part_effect-taken, chosen_none, chosen_some, RunFits, own_taken, out_taken, own_effect, out_effects, own_state, out_state}
+use Rattle.kernel_top.specs.Thin.{is_simple, on_first, count_of, EachSteps}
+use Rattle.kernel_top.proofs.ThinParts.{own_vp, class_part, class_state, IsSimplePlan, simple_plan, part_taken, part_step-taken, effect_taken, part_effect-taken, chosen_none, chosen_some, RunFits, own_taken, out_taken, own_effect, out_effects, own_state, out_state, makes_step}
 
 -- an event of a class on processor 0
 abbrev pub first_event : ℕ → Event
@@ -45,6 +45,7 @@ pub record Stepped (k : Config) (m : Machine) (a : State) (d n : ℕ) (x : Class
   pub part : part_step m.shared (words_of m) d (m.part d) 0 ≡ class_part k d x begun
   pub state : steps a (effect_at m (first_event d)) ≡ with_part a d (class_state k d x)
   pub fits : RunFits k.console (n + 1) x
+  pub met : EachSteps a (effect_at m (first_event d))
 
 -- all instructions are simple
 abbrev pub AllSimple : Config → Type 0
@@ -78,7 +79,8 @@ module _ (k : Config) (simple : AllSimple k) (m : Machine) (a : State) (d n : �
         part = part_is ∙ ap (part_taken s (words_of m) d (class_part k d x begun) 0) none;
         state = ap (λ l. steps a (names l)) (effect_is ∙ ap (effect_taken s (words_of m) d (class_part k d x begun) 0) none)
           ∙ ap (λ (z : ℕ → Part). record { shared = a.shared; part = z }) (put_same a.part d (class_state k d x) a_is);
-        fits = record { used = (let u = f.used in omega arith); within = f.within; count = f.count } }
+        fits = record { used = (let u = f.used in omega arith); within = f.within; count = f.count };
+        met = subst (λ l. EachSteps a (names l)) (sym (effect_is ∙ ap (effect_taken s (words_of m) d (class_part k d x begun) 0) none)) tt }
 
   module _ (p : Process) (m_is : m.part d ≡ class_part k d (x (Some p)) begun) (a_is : a.part d ≡ class_state k d (x (Some p))) (f : RunFits k.console n (x (Some p))) where
     small : (used + 1) % 2 ^ 64 ≡ used + 1
@@ -93,7 +95,10 @@ module _ (k : Config) (simple : AllSimple k) (m : Machine) (a : State) (d n : �
           ∙ ap (effect_taken s (words_of m) d (class_part k d (x (Some p)) begun) 0) (chosen_some p lines used begun true live)
           ∙ own_effect k s (words_of m) d p lines used begun after e)
         ∙ own_state k a d p lines used a_is after live (ap (λ z. plan z d p) a_shared ∙ e);
-      fits = record { used = (let u = f.used in omega arith); within = f.within; count = f.count } }
+      fits = record { used = (let u = f.used in omega arith); within = f.within; count = f.count };
+      met = subst (λ l. EachSteps a (names l)) (sym (effect_is (Some p) m_is
+          ∙ ap (effect_taken s (words_of m) d (class_part k d (x (Some p)) begun) 0) (chosen_some p lines used begun true live)
+          ∙ own_effect k s (words_of m) d p lines used begun after e)) (makes_step k a d p lines used a_is live, tt) }
     by_plan live (Ask (Out v)) e ok = record {
       begun = true;
       part = part_is (Some p) m_is ∙ ap (part_taken s (words_of m) d (class_part k d (x (Some p)) begun) 0) (chosen_some p lines used begun true live)
@@ -103,7 +108,10 @@ module _ (k : Config) (simple : AllSimple k) (m : Machine) (a : State) (d n : �
           ∙ out_effects k s (words_of m) d p lines used begun v e)
         ∙ out_state k a d p lines used a_is v live (ap (λ z. plan z d p) a_shared ∙ e)
         ∙ ap (λ (z : Shared). with_part a d (class_state k d (printed z.console (x (Some p)) p v))) a_shared;
-      fits = printed_fits k.console n p lines used v (nat_lt used k.console) refl f }
+      fits = printed_fits k.console n p lines used v (nat_lt used k.console) refl f;
+      met = subst (λ l. EachSteps a (names l)) (sym (effect_is (Some p) m_is
+          ∙ ap (effect_taken s (words_of m) d (class_part k d (x (Some p)) begun) 0) (chosen_some p lines used begun true live)
+          ∙ out_effects k s (words_of m) d p lines used begun v e)) (makes_step k a d p lines used a_is live, tt) }
     by_plan live (Begin child) e ok = absurd ok
     by_plan live (Ask _) e ok = absurd ok
 
@@ -151,6 +159,10 @@ module _ (k : Config) (simple : AllSimple k) where
           true ↦ at_class.fits
         | false ↦ (let g : RunFits k.console n (f q) = t.fits q in record { used = (let u = g.used in omega arith); within = g.within; count = g.count }) ] }
 
+  each_append : (xs ys : List ProcName) (a : State) → EachSteps a xs → EachSteps (steps a xs) ys → EachSteps a (xs ++ ys)
+  each_append [] ys a h g = g
+  each_append (x ∷ xs) ys a h g = (h.0, each_append xs ys (Rattle.class_model.specs.Step.step a x) h.1 g)
+
   steps_append : (xs ys : List ProcName) (a : State) → steps a (xs ++ ys) ≡ steps (steps a xs) ys
   steps_append [] ys a = refl
   steps_append (x ∷ xs) ys a = steps_append xs ys (Rattle.class_model.specs.Step.step a x)
@@ -159,15 +171,35 @@ module _ (k : Config) (simple : AllSimple k) where
   abbrev pub runs_after : (ℕ → ClassRun) → List Event → ℕ → ClassRun
   runs_after f events d = class_after (shared_of k) d (count_of d events) (f d)
 
+  -- one event of processor 0
+  event_step : (e : Event) (n : ℕ) (m : Machine) (a : State) (f : ℕ → ClassRun) → n < 2 ^ 63 → (e.processor == 0) ≡ true → Together k n m a f →
+    Together k (n + 1) (step m e) (steps a (effect_at m e)) (put f e.class (class_step (shared_of k) e.class (f e.class)))
+  event_step e n m a f small first t =
+    let event_is : first_event e.class ≡ e = ap (λ z. record { processor = z; class = e.class }) (sym (eqb-true e.processor 0 first)) in
+    subst (λ z. Together k (n + 1) (step m z) (steps a (effect_at m z)) (put f e.class (class_step (shared_of k) e.class (f e.class)))) event_is (first_step n m a f small t e.class)
+
+  event_met : (e : Event) (n : ℕ) (m : Machine) (a : State) (f : ℕ → ClassRun) → n < 2 ^ 63 → (e.processor == 0) ≡ true → Together k n m a f → EachSteps a (effect_at m e)
+  event_met e n m a f small first t =
+    let event_is : first_event e.class ≡ e = ap (λ z. record { processor = z; class = e.class }) (sym (eqb-true e.processor 0 first)) in
+    subst (λ z. EachSteps a (effect_at m z)) event_is (at_class n m a f small t e.class).met
+
+  -- every name in the order of effect makes a step
+  pub each_steps : (events : List Event) (n : ℕ) (m : Machine) (a : State) (f : ℕ → ClassRun) → n + length events < 2 ^ 63 → on_first events ≡ true →
+    Together k n m a f → EachSteps a (order_of_effect m events)
+  each_steps [] n m a f bound first t = tt
+  each_steps (e ∷ events) n m a f bound first t =
+    let parts : ((e.processor == 0) ≡ true) × (on_first events ≡ true) = and_parts _ _ first in
+    let small : n < 2 ^ 63 = omega arith in
+    each_append (effect_at m e) (order_of_effect (step m e) events) a (event_met e n m a f small parts.0 t)
+      (each_steps events (n + 1) (step m e) (steps a (effect_at m e)) (put f e.class (class_step (shared_of k) e.class (f e.class))) (omega arith) parts.1 (event_step e n m a f small parts.0 t))
+
   pub together_run : (events : List Event) (n : ℕ) (m : Machine) (a : State) (f : ℕ → ClassRun) → n + length events < 2 ^ 63 → on_first events ≡ true →
     Together k n m a f → Together k (n + length events) (run m events) (steps a (order_of_effect m events)) (runs_after f events)
   together_run [] n m a f bound first t = let e : n ≡ n + 0 = omega arith in subst (λ z. Together k z m a f) e t
   together_run (e ∷ events) n m a f bound first t =
     let parts : ((e.processor == 0) ≡ true) × (on_first events ≡ true) = and_parts _ _ first in
-    let event_is : first_event e.class ≡ e = ap (λ z. record { processor = z; class = e.class }) (sym (eqb-true e.processor 0 parts.0)) in
     let small : n < 2 ^ 63 = omega arith in
-    let after : Together k (n + 1) (step m e) (steps a (effect_at m e)) (put f e.class (class_step (shared_of k) e.class (f e.class))) =
-          subst (λ z. Together k (n + 1) (step m z) (steps a (effect_at m z)) (put f e.class (class_step (shared_of k) e.class (f e.class)))) event_is (first_step n m a f small t e.class) in
+    let after : Together k (n + 1) (step m e) (steps a (effect_at m e)) (put f e.class (class_step (shared_of k) e.class (f e.class))) = event_step e n m a f small parts.0 t in
     let rest : Together k ((n + 1) + length events) (run (step m e) events) (steps (steps a (effect_at m e)) (order_of_effect (step m e) events)) (runs_after (put f e.class (class_step (shared_of k) e.class (f e.class))) events) =
           together_run events (n + 1) (step m e) (steps a (effect_at m e)) (put f e.class (class_step (shared_of k) e.class (f e.class))) (omega arith) parts.1 after in
     let count : (n + 1) + length events ≡ n + length (e ∷ events) = omega arith in

@@ -70,7 +70,7 @@ module _ (k : Config) (records : k.records ≡ []) (n : ℕ) (m : Machine) (a : 
   abbrev run_part : ClassPart
   run_part = class_part k c (f c) (t.begun c)
 
-  lines_printed : printed (shared_of k) run_part ≡ (f c).lines
+  pub lines_printed : printed (shared_of k) run_part ≡ (f c).lines
   lines_printed = ap (λ z. filter_map (Rattle.kernel_top.proofs.ThinLists.line_at z) (below k.console)) (append-nil _) ∙ read_back k.console 0 (f c).lines (t.fits c).within
 
   processes_seen : seen_processes (λ p. processes_of (run_part.vp p)) ≡ seen_process (f c).process

@@ -1,10 +1,10 @@
 -- A valid narrow configuration is thin, and its events are of processor 0. So the report of the top call is that of the classes by themselves.
-use Rattle.std.proofs.Common.{ℕ, zero, suc, ◌+◌, ◌^◌, ◌<◌, ◌≤◌, Bool, true, false, List, [], ◌∷◌, ◌++◌, ◌≡◌, refl, sym, ap, ◌∙◌, Some, None, cond, arith, length, map, replicate}
+use Rattle.std.proofs.Common.{ℕ, zero, suc, ◌+◌, ◌^◌, ◌<◌, ◌≤◌, Bool, true, false, List, [], ◌∷◌, ◌≡◌, refl, sym, ap, ◌∙◌, Some, None, cond, arith, length, map, replicate}
 use Rattle.std.proofs.lemmas.Bool.{eq-eqb, and_parts, and_from, ltb-true, le-leb}
 use Rattle.std.proofs.lemmas.List.{length-append, length-replicate}
 use Rattle.std.proofs.lemmas.List.Folds.{list_all-append}
 use Rattle.std.proofs.lemmas.List.Sums.{sum_by-cons}
-use Rattle.std.specs.Prelude.{◌==◌, ◌&&◌, if◌then◌else◌, slice_get, slice_index_or, count_by}
+use Rattle.std.specs.Prelude.{◌==◌, ◌&&◌, slice_get, slice_index_or, count_by}
 use Rattle.std.specs.List.{list_all, list_any, flat_map, sum_by}
 use Rattle.std.specs.Option.{option_map_or}
 use Rattle.lists.specs.Lists.{below}
@@ -20,16 +20,14 @@ use Rattle.config_text.specs.declared.config.Script.{Script as ScriptText}
 use Rattle.config_text.specs.Narrow.{IsNarrow, is_narrow_instr, is_narrow_script, is_narrow_item}
 use Rattle.config_text.specs.Valid.{IsValid, is_class, item_ok}
 use Rattle.config_text.specs.Valid.{process_ok as text_process_ok, events_of as item_events}
-use Rattle.class_model.specs.Config.{Config, Script, ProcessLine, shared_of}
-use Rattle.class_model.specs.Report.{section_text}
+use Rattle.class_model.specs.Config.{Config, Script, ProcessLine}
 use Rattle.class_model.specs.Valid.{at_place, process_ok}
 use Rattle.schedule.specs.Schedule.{scheduled, event}
 use Rattle.machine.specs.Opening.{machine}
-use Rattle.kernel_top.specs.Alone.{class_after, class_opening, class_seen}
 use Rattle.kernel_top.specs.Configuration.{configuration, script_of_text, process_of_text, shape_of, events_of}
 use Rattle.kernel_top.specs.Headline.{report_of, low_section, live_after, class_live}
-use Rattle.kernel_top.specs.Thin.{is_simple, simple_script, thin_line, IsThin, on_first, count_of, run_is_live}
-use Rattle.kernel_top.specs.ThinText.{item_turns, turns_of, class_run, class_text}
+use Rattle.kernel_top.specs.Thin.{is_simple, simple_script, thin_line, IsThin, on_first, run_is_live}
+use Rattle.kernel_top.specs.ThinText.{class_run, class_text}
 use Rattle.kernel_top.proofs.ThinLists.{list_all_more}
 use Rattle.kernel_top.proofs.Headline.{low_section_thin, live_thin}
 
@@ -118,37 +116,15 @@ module _ (k : ConfigText) (valid : IsValid k) (narrow : IsNarrow k) where
   items_length place (Mix x n ∷ items) h = cc
   items_length place (Sweep n ∷ items) h = cc
 
-  count_here : (c d p n : ℕ) (rest : List Event) → count_of c (replicate n (event p d) ++ rest) ≡ (if c == d then n else 0) + count_of c rest
-  count_here c d p zero rest = elim (c == d) as (λ b. count_of c rest ≡ (if b then 0 else 0) + count_of c rest) [ true ↦ omega arith | false ↦ omega arith ]
-  count_here c d p (suc n) rest = by_test (c == d) (count_here c d p n rest)
-    where
-      by_test : (b : Bool) → count_of c (replicate n (event p d) ++ rest) ≡ (if b then n else 0) + count_of c rest →
-        (if b then suc (count_of c (replicate n (event p d) ++ rest)) else count_of c (replicate n (event p d) ++ rest)) ≡ (if b then suc n else 0) + count_of c rest
-      by_test true e = omega arith
-      by_test false e = e
-
-  items_count : (c place : ℕ) (items : List Item) → list_all is_narrow_item items ≡ true → count_of c (scheduled (shape_of k) place items) ≡ turns_of c items
-  items_count c place [] h = refl
-  items_count c place (Events p d n ∷ items) h =
-    count_here c d p n (scheduled (shape_of k) place items)
-    ∙ ap (λ z. (if c == d then n else 0) + z) (items_count c place items h)
-    ∙ sym (sum_by-cons (item_turns c) (Events p d n) items)
-  items_count c place (Mix x n ∷ items) h = cc
-  items_count c place (Sweep n ∷ items) h = cc
-
   pub text_first : on_first (events_of k) ≡ true
   text_first = items_first 0 k.schedule narrow.items valid.items
 
   pub text_few : length (events_of k) < 2 ^ 63
   text_few = let e = items_length 0 k.schedule narrow.items in let few : sum_by (item_events k) k.schedule ≤ 4194304 = valid.few_events in omega (arith, e)
 
-  pub text_count : (c : ℕ) → count_of c (events_of k) ≡ turns_of c k.schedule
-  text_count c = items_count c 0 k.schedule narrow.items
-
   -- the section that is due to a class is its text by itself
   pub text_section : (c : ℕ) → low_section here (events_of k) c ≡ class_text k c
   text_section c = low_section_thin here text_thin text_processes (events_of k) text_first text_few c
-    ∙ ap (λ n. section_text (class_seen here c (class_after (shared_of here) c n (class_opening here c)))) (text_count c)
 
   -- the report is the texts of the classes by themselves
   pub text_report : report_of here (events_of k) ≡ flat_map (class_text k) (below (length k.table))
@@ -156,7 +132,6 @@ module _ (k : ConfigText) (valid : IsValid k) (narrow : IsNarrow k) where
 
   pub text_class_live : (c : ℕ) → class_live (machine here (events_of k)) c ≡ run_is_live (class_run k c)
   text_class_live c = live_thin here text_thin (events_of k) text_first text_few c
-    ∙ ap (λ n. run_is_live (class_after (shared_of here) c n (class_opening here c))) (text_count c)
 
   -- a process is live after all events exactly where one of a class by itself is
   pub text_live : live_after here (events_of k) ≡ list_any (λ c. run_is_live (class_run k c)) (below (length k.table))

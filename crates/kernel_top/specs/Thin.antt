@@ -1,13 +1,15 @@
 -- Thin configurations, whose classes run by themselves: one processor, at most one process for a class, no record of a volume, and
 -- scripts of set, out and halt alone. The law of the top call is stated for them.
-use Rattle.std.specs.Prelude.{ℕ, suc, Bool, true, false, ◌&&◌, List, [], ◌∷◌, ◌==◌, if◌then◌else◌, nat_le, count_by, IsTrue, Option, Some, None, ◌≡◌}
+use Rattle.std.specs.Prelude.{ℕ, suc, Bool, true, false, ◌&&◌, List, [], ◌∷◌, ◌==◌, if◌then◌else◌, nat_le, count_by, IsTrue, Option, Some, None, is_some, ◌≡◌}
 use Rattle.std.specs.List.{list_all, list_any}
 use Rattle.lists.specs.Lists.{below}
 use Rattle.words_layout.specs.declared.op.Event.{Event}
 use Rattle.script_lang.specs.declared.instr.Instr.{Instr}
 use Rattle.script_lang.specs.declared.instr.Instr.TheVariants.{Halt, Set, Out}
 use Rattle.class_model.specs.Config.{Config, Script, ProcessLine}
-use Rattle.class_model.specs.Process.{Process}
+use Rattle.class_model.specs.Process.{Process, ProcName}
+use Rattle.class_model.specs.State.{State}
+use Rattle.class_model.specs.Step.{deed, step}
 use Rattle.class_model.specs.Valid.{at_place}
 use Rattle.machine.specs.Machine.{Machine, is_live}
 use Rattle.kernel_top.specs.Alone.{ClassRun}
@@ -42,6 +44,11 @@ on_first events = list_all (λ (e : Event). e.processor == 0) events
 abbrev pub count_of : ℕ → List Event → ℕ
 count_of c [] = 0
 count_of c (e ∷ events) = let rest = count_of c events in if c == e.class then suc rest else rest
+
+-- each name, in order, makes a step of the machine of whole instructions
+abbrev pub EachSteps : State → List ProcName → Type 0
+EachSteps a [] = Unit {0}
+EachSteps a (n ∷ names) = (is_some (deed a n) ≡ true) × EachSteps (step a n) names
 
 -- whether some process of a class is live, on any of the four processors
 abbrev pub class_is_live : ℕ → Machine → Bool

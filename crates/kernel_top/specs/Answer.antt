@@ -1,0 +1,132 @@
+-- What each answer of the top call means: by its words, by the bytes of its ports, and by the faults of its host.
+-- Where a sentence speaks of bytes left, it holds for a host that tells them.
+use Rattle.std.specs.Prelude.{◌≡◌, ◌<◌, ◌≤◌, ℕ, Bool, true, false, List, [], ◌∷◌, length, codes, Option, Some, None}
+use Rattle.config_text.specs.declared.config.Config.{Config as ConfigText}
+use Rattle.config_text.specs.Narrow.{SpellsNarrow}
+use Rattle.host_ports.specs.Ports.{Port, Told, Rose, IsPrefixTaken, with_bytes}
+use Rattle.kernel_top.specs.declared.status.Status.{Status}
+use Rattle.kernel_top.specs.declared.status.Status.TheVariants.{Done, Refused, Usage, HostFault, Unfinished, NoMemory}
+use Rattle.kernel_top.specs.declared.status.Refusal.TheVariants.{Config, Class, Volume, Load, TooLong, Release, Store}
+use Rattle.kernel_top.specs.declared.status.PortFault.TheVariants.{Read, Write, Disk}
+use Rattle.kernel_top.specs.Configuration.{configuration, events_of}
+use Rattle.kernel_top.specs.Headline.{report_of, live_after}
+
+-- the ports of a host
+abbrev pub Ports : Type 0
+Ports = ℕ → Port
+
+-- what holds of the bytes that a host tells
+abbrev pub IfTold : Told → (List ℕ → Type 0) → Type 0
+IfTold None P = Unit {0}
+IfTold (Some bytes) P = P bytes
+
+-- the most bytes that port 0 may have
+abbrev pub limit : ℕ
+limit = 1048576
+
+-- the one accepted list of words
+abbrev pub IsSim : List (List ℕ) → Type 0
+IsSim words = words ≡ codes "sim" ∷ []
+
+-- no port has changed
+abbrev pub Untouched : Ports → Ports → Type 0
+Untouched before after = (p : ℕ) → after p ≡ before p
+
+-- no port has taken a byte, or failed to
+pub record NothingPushed (before after : Ports) : Type 0 where
+  pub taken : (p : ℕ) → (after p).taken ≡ (before p).taken
+  pub pushes : (p : ℕ) → (after p).pushes ≡ (before p).pushes
+
+-- all that the port had left was read
+abbrev pub ReadToEnd : Port → Port → Type 0
+ReadToEnd before after = IfTold before.left (λ bytes. after.left ≡ Some [])
+
+-- P holds of the configuration that the bytes left spell
+abbrev pub OfConfiguration : Told → (ConfigText → Type 0) → Type 0
+OfConfiguration left P = IfTold left (λ bytes. (k : ConfigText) × SpellsNarrow bytes k × P k)
+
+-- the report that is due for a configuration
+abbrev pub report_for : ConfigText → List ℕ
+report_for k = report_of (configuration k []) (events_of k)
+
+-- the answers that there are
+abbrev pub IsAnswer : Status → Type 0
+IsAnswer Done = Unit {0}
+IsAnswer Unfinished = Unit {0}
+IsAnswer NoMemory = Unit {0}
+IsAnswer (Usage kind) = kind ≡ 3
+IsAnswer (HostFault (Read port)) = port ≡ 0
+IsAnswer (HostFault (Write port)) = port ≡ 0
+IsAnswer (HostFault Disk) = ⊥
+IsAnswer (Refused (TooLong port)) = port ≡ 0
+IsAnswer (Refused (Config line code)) = (line ≡ 0) × (code ≡ 40)
+IsAnswer (Refused (Class given classes)) = ⊥
+IsAnswer (Refused (Volume port offset code)) = ⊥
+IsAnswer (Refused (Load volume item code)) = ⊥
+IsAnswer (Refused (Release line code)) = ⊥
+IsAnswer (Refused (Store length)) = ⊥
+
+-- Usage comes exactly where the words aren't accepted, and then no port has changed.
+abbrev pub UsageShows : List (List ℕ) → Ports → Ports → Status → Type 0
+UsageShows words before after (Usage kind) = (IsSim words → ⊥) × Untouched before after
+UsageShows words before after _ = IsSim words
+
+-- A read fault comes only where a pull of port 0 failed, a write fault only where a push to it failed.
+abbrev pub FaultShows : Port → Port → Status → Type 0
+FaultShows before after (HostFault (Read port)) = Rose before.pulls after.pulls
+FaultShows before after (HostFault (Write port)) = Rose before.pushes after.pushes
+FaultShows before after _ = Unit {0}
+
+-- what holds of the answers that come once port 0 is read
+abbrev pub IfRead : Status → Type 0 → Type 0
+IfRead Done P = P
+IfRead Unfinished P = P
+IfRead (HostFault (Write port)) P = P
+IfRead (Refused (Config line code)) P = P
+IfRead _ P = Unit {0}
+
+-- TooLong comes exactly where port 0 has more bytes left than the limit. Want of memory and a read fault come before it.
+abbrev pub LengthShows : Told → Status → Type 0
+LengthShows left (Refused (TooLong port)) = IfTold left (λ bytes. limit < length bytes)
+LengthShows left status = IfRead status (IfTold left (λ bytes. length bytes ≤ limit))
+
+-- what holds of the answers that come once the configuration is read
+abbrev pub IfTaken : Status → Type 0 → Type 0
+IfTaken Done P = P
+IfTaken Unfinished P = P
+IfTaken (HostFault (Write port)) P = P
+IfTaken _ P = Unit {0}
+
+-- Config comes exactly where the bytes left spell no configuration.
+abbrev pub SpellingShows : Told → Status → Type 0
+SpellingShows left (Refused (Config line code)) = IfTold left (λ bytes. (k : ConfigText) → SpellsNarrow bytes k → ⊥)
+SpellingShows left status = IfTaken status (OfConfiguration left (λ k. Unit {0}))
+
+-- what holds where the report was written whole
+abbrev pub IfRan : Status → Type 0 → Type 0
+IfRan Done P = P
+IfRan Unfinished P = P
+IfRan _ P = Unit {0}
+
+-- port 0 has taken the report of the configuration that its bytes spell
+abbrev pub Reported : Port → Port → Type 0
+Reported before after = OfConfiguration before.left (λ k. after.taken ≡ with_bytes before.taken (report_for k))
+
+-- At a write fault port 0 has taken a proper prefix of that report.
+abbrev pub PrefixShows : Port → Port → Status → Type 0
+PrefixShows before after (HostFault (Write port)) =
+  OfConfiguration before.left (λ k. IsPrefixTaken before.taken after.taken (report_for k))
+PrefixShows before after _ = Unit {0}
+
+-- Done comes exactly where no process is live after all events, Unfinished where one is.
+abbrev pub EndShows : Told → Status → Type 0
+EndShows left Done = OfConfiguration left (λ k. live_after (configuration k []) (events_of k) ≡ false)
+EndShows left Unfinished = OfConfiguration left (λ k. live_after (configuration k []) (events_of k) ≡ true)
+EndShows left _ = Unit {0}
+
+-- Nothing is pushed but the report.
+abbrev pub SilenceShows : Ports → Ports → Status → Type 0
+SilenceShows before after Done = Unit {0}
+SilenceShows before after Unfinished = Unit {0}
+SilenceShows before after (HostFault (Write port)) = Unit {0}
+SilenceShows before after _ = NothingPushed before after
