@@ -76,3 +76,6 @@ unpack_alias-none word = no_some {P = λ e. SpellsEntry e word} (unpack_alias wo
 -- likewise of an answer that is the same
 pub none_of_same : (word : ℕ) (o : Option (Option Alias)) → o ≡ unpack_alias word → IsNone o ↔ ((entry : Option Alias) → SpellsEntry entry word → ⊥)
 none_of_same word o e = let P : Option (Option Alias) → Type 0 = λ o. IsNone o ↔ ((entry : Option Alias) → SpellsEntry entry word → ⊥) in subst P (sym e) (unpack_alias-none word)
+
+pub entries_come_back : (entry : Option Alias) → entry_in_range entry ≡ true → unpack_alias (pack_alias entry) ≡ Some entry
+entries_come_back entry range = unpacked_entry (pack_alias entry) entry (record { range = range; packed = refl })

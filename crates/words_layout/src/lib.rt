@@ -3,6 +3,7 @@
 
 mod address;
 mod coding;
+mod laws;
 mod limits;
 mod op;
 mod plain;
@@ -16,6 +17,7 @@ pub use address::{
     writes_addr,
 };
 pub use coding::{Alias, Home, pack_alias, pack_home, unpack_alias, unpack_home};
+pub use laws::{address_laws, naming_laws, spelling_laws};
 pub use limits::{
     CLASS_LIMIT, CLASS_WORDS, ENTRY_COUNT, FRAME_LIMIT, PAGE_LIMIT, SERIAL_LIMIT, SIZE_LIMIT,
 };
@@ -23,3 +25,6 @@ pub use op::{Event, Op, WordPort};
 pub use plain::PlainWords;
 pub use recording::RecordingWords;
 pub use segment::{SegId, seg_number};
+
+#[cfg(test)]
+mod tests;
