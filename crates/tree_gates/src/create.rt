@@ -10,7 +10,9 @@ use gate_parts::{entry_taken, home_taken};
 use policy::{Outcome, Reply, Rule};
 use rings::Brackets;
 use turns::{NestedStep, NestedTurn};
-use words_layout::{Alias, Home, Op, SERIAL_LIMIT, SegId, entry_addr, home_addr, pack_alias, serial_addr};
+use words_layout::{
+    Alias, Home, Op, SERIAL_LIMIT, SegId, entry_addr, home_addr, pack_alias, serial_addr,
+};
 
 /// What the body does next.
 #[derive(Clone, Copy, Debug, PartialEq, Eq)]
