@@ -7,16 +7,16 @@ use Rattle.turns.specs.Bodies.{Loads, Inner, Outer}
 -- The numbers held are s of a look and t of a turn; rest is what is left of the body. The turn of a segment stands alone, or
 -- within its class's turn, whose ticket is then held besides.
 pub data Doing (R : Type 0) : Type 0 where
-  Fresh : Doing R                                                                    -- no step of it was taken
-  LookSecond : (class : ℕ) → Guard → (s : ℕ) → Loads R → Doing R                      -- the started word was s
-  LookBody : (class : ℕ) → Guard → (s : ℕ) → (rest : Loads R) → Doing R               -- the finished word was s
-  OuterSecond : Outer R → Doing R                                                    -- 1 was added to S
-  OuterThird : (t : ℕ) → Outer R → Doing R                                            -- the ticket is t
-  OuterBody : (t : ℕ) → (rest : Outer R) → Doing R                                    -- C was t
-  InnerSecond : (within : Option ℕ) → SegId → Inner R → Doing R                       -- 1 was added to the started word
-  InnerThird : (within : Option ℕ) → SegId → (t : ℕ) → Inner R → Doing R              -- the ticket is t
-  InnerBody : (within : Option ℕ) → SegId → (t : ℕ) → (rest : Inner R) → Doing R      -- the finished word was t
-  Leaving : (t : ℕ) → Doing R                                 -- it took effect within; the Add to C is left
+  Fresh : Doing R  -- no step of it was taken
+  LookSecond : (class : ℕ) → Guard → (s : ℕ) → Loads R → Doing R  -- the started word was s
+  LookBody : (class : ℕ) → Guard → (s : ℕ) → (rest : Loads R) → Doing R  -- the finished word was s
+  OuterSecond : Outer R → Doing R  -- 1 was added to S
+  OuterThird : (t : ℕ) → Outer R → Doing R  -- the ticket is t
+  OuterBody : (t : ℕ) → (rest : Outer R) → Doing R  -- C was t
+  InnerSecond : (within : Option ℕ) → SegId → Inner R → Doing R  -- 1 was added to the started word
+  InnerThird : (within : Option ℕ) → SegId → (t : ℕ) → Inner R → Doing R  -- the ticket is t
+  InnerBody : (within : Option ℕ) → SegId → (t : ℕ) → (rest : Inner R) → Doing R  -- the finished word was t
+  Leaving : (t : ℕ) → Doing R  -- it took effect within; the Add to C is left
 
 -- whether a step goes on, polls, or ends the instruction
 pub data Ending : Type 0 where
@@ -102,7 +102,7 @@ doing_told (OuterThird t body) answer = if answer == t then going (OuterBody t b
 doing_told (OuterBody t rest) answer = outer_told t rest answer
 doing_told (InnerSecond within u body) answer = going (InnerThird within u answer body)
 doing_told (InnerThird within u t body) answer =
-  if answer == t then going (InnerBody within u t body) else poll (InnerThird within u t body)
+    if answer == t then going (InnerBody within u t body) else poll (InnerThird within u t body)
 doing_told (InnerBody within u t rest) answer = inner_told within u t rest answer
 doing_told (Leaving t) answer = record { takes = None; doing = Fresh; ending = Ends }
 
