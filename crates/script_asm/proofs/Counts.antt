@@ -1,5 +1,5 @@
 -- Lines counted, and a name sought among them, one line after the other.
-use Rattle.std.proofs.Common.{◌≡◌, ℕ, ◌+◌, ◌≤◌, true, false, cond, List, [], ◌∷◌, length, Option, Some, None, refl}
+use Rattle.std.proofs.Common.{◌≡◌, ℕ, ◌+◌, true, false, cond, List, [], ◌∷◌, Some, None, refl}
 use Rattle.std.specs.Prelude.{map}
 use Rattle.text_lines.specs.Lines.{words_of}
 use Rattle.text_lines.proofs.LineCount.{few_lines}

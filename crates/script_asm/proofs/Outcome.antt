@@ -1,10 +1,9 @@
 -- What is answered to a script is right, and nothing else is.
-use Rattle.std.proofs.Common.{◌≡◌, ℕ, ◌+◌, ◌≤◌, Bool, true, false, cond, eqb, List, [], ◌∷◌, length, Option, Some, None, Result, Ok, Err, refl, sym, ap, subst, ◌∙◌, arith}
+use Rattle.std.proofs.Common.{◌≡◌, ℕ, true, false, cond, eqb, List, [], ◌∷◌, length, Option, Some, None, Result, Ok, Err, refl, sym, ap, ◌∙◌, arith}
 use Rattle.std.specs.Result.{result_err}
-use Rattle.std.specs.Prelude.{IsTrue}
 use Rattle.std.proofs.lemmas.Option.{some_pair_parts}
 use Rattle.text_lines.specs.Lines.{lines, words_of}
-use Rattle.text_lines.specs.Faults.{Tests, Rises, Rising, IsFirstFault, IsFaultless, lines_answer}
+use Rattle.text_lines.specs.Faults.{Rises, Rising, lines_answer}
 use Rattle.text_lines.proofs.FirstFault.{first_fault, faultless, faultless_read, first_fault_read}
 use Rattle.script_lang.specs.declared.instr.Instr.{Instr}
 use Rattle.script_asm.specs.declared.op.Op.{Op}
@@ -12,11 +11,10 @@ use Rattle.script_asm.specs.declared.fault.Code.{Code}
 use Rattle.script_asm.specs.declared.fault.Code.TheVariants as code
 use Rattle.script_asm.specs.declared.fault.AsmError.{AsmError}
 use Rattle.script_asm.specs.declared.fault.AsmError.TheVariants as error
-use Rattle.script_asm.specs.declared.draft.Draft.{Draft}
 use Rattle.script_asm.specs.Operand.{Word}
-use Rattle.script_asm.specs.Script.{code_number, begins_at, op_of, Place, start, name_tests, operand_tests, instr_tests, word_tests, line_tests, end_tests, script_rules, words_in}
+use Rattle.script_asm.specs.Script.{code_number, begins_at, op_of, Place, start, name_tests, operand_tests, instr_tests, word_tests, script_rules, words_in}
 use Rattle.script_asm.specs.Answer.{Says, IsFault, AnswersScript, IsReadAs, IsRefusedWith}
-use Rattle.script_asm.specs.Reading.{place_of, Reads}
+use Rattle.script_asm.specs.Reading.{Reads}
 
 -- ---- codes
 

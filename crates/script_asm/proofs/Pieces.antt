@@ -1,9 +1,8 @@
 -- A script's text, one piece after the other.
-use Rattle.std.proofs.Common.{◌≡◌, ℕ, List, [], ◌∷◌, ◌++◌, ◌+◌, ◌<◌, length, get_or, take, refl, sym, ap, ◌∙◌, append_assoc}
+use Rattle.std.proofs.Common.{◌≡◌, ℕ, List, [], ◌∷◌, ◌++◌, ◌+◌, ◌<◌, length, get_or, take, sym, ap, append_assoc}
 use Rattle.std.specs.Prelude.{codes, map}
-use Rattle.std.specs.Fmt.{decimal}
 use Rattle.std.proofs.lemmas.List.{append-nil, take_more, map_push}
-use Rattle.text_lines.specs.Printed.{spaced, printed}
+use Rattle.text_lines.specs.Printed.{spaced}
 use Rattle.text_lines.proofs.PrintedWords.{printed-push}
 use Rattle.script_lang.specs.declared.instr.Instr.{Instr}
 use Rattle.script_asm.specs.Operand.{Word}

@@ -1,5 +1,5 @@
 -- A script's lines, one after the other.
-use Rattle.std.proofs.Common.{◌≡◌, ℕ, ◌+◌, false, true, not, List, [], ◌∷◌, Result, Ok, Err, Some, None, refl}
+use Rattle.std.proofs.Common.{◌≡◌, ℕ, ◌+◌, false, true, List, [], ◌∷◌, Result, Ok, Err, refl}
 use Rattle.text_lines.specs.Lines.{words_of}
 use Rattle.text_lines.specs.Faults.{judged, lines_answer}
 use Rattle.text_lines.proofs.FirstFault as generic

@@ -1,6 +1,6 @@
 -- What is read is a program: 1 to 256 instructions, targets among them, and the last one halt or jump.
-use Rattle.std.proofs.Common.{◌≡◌, ℕ, suc, ◌+◌, ◌-◌, ◌<◌, ◌≤◌, Bool, true, false, cond, not, eqb, leb, ltb, ◌&&◌, ◌||◌, List, [], ◌∷◌, ◌++◌, length, min, Option, Some, None, Result, Ok, Err, refl, sym, ap, subst, ◌∙◌, arith}
-use Rattle.std.specs.Prelude.{map, option_map, IsTrue}
+use Rattle.std.proofs.Common.{◌≡◌, ℕ, ◌+◌, ◌<◌, ◌≤◌, Bool, true, false, cond, not, eqb, leb, ltb, ◌||◌, List, [], ◌∷◌, ◌++◌, length, min, Option, Some, None, Result, Ok, Err, refl, sym, subst, arith}
+use Rattle.std.specs.Prelude.{map, option_map}
 use Rattle.std.specs.Result.{result_unwrap_or}
 use Rattle.std.specs.List.{list_all}
 use Rattle.std.proofs.lemmas.Bool.{and_from, and_parts, leb-false, lt-ltb, le-leb}
@@ -18,7 +18,7 @@ use Rattle.script_asm.specs.declared.op.Kind.TheVariants.{Register, Target}
 use Rattle.script_asm.specs.declared.fault.Code.{Code}
 use Rattle.script_asm.specs.declared.fault.Code.TheVariants as code
 use Rattle.script_asm.specs.Operand.{Word, kinds}
-use Rattle.script_asm.specs.Script.{begins_at, op_of, instructions, is_instruction, spelled, named, number_or, within, target_of, operand, is_code, has_code, Place, start, name_tests, operand_tests, instr_tests, word_tests, made, added, next_place_with, next_place, line_tests, end_tests, script_rules, words_in}
+use Rattle.script_asm.specs.Script.{begins_at, op_of, instructions, is_instruction, spelled, named, number_or, within, operand, is_code, has_code, Place, start, name_tests, operand_tests, instr_tests, word_tests, made, added, next_place, line_tests, end_tests, script_rules, words_in}
 
 -- ---- targets
 

@@ -1,9 +1,5 @@
 -- Mnemonics, and what their operands must be.
-use Rattle.std.specs.Prelude.{ℕ, ◌+◌, ◌-◌, ◌*◌, List, [], ◌∷◌, length, Bool, true, false, not, ◌==◌, ◌&&◌, ◌||◌, nat_le, nat_lt, if◌then◌else◌, min, Option, Some, None, is_some, codes}
-use Rattle.std.specs.List.{list_all}
-use Rattle.std.specs.Str.{bytes_eq}
-use Rattle.text_lines.specs.Number.{misspelt, value_of}
-use Rattle.text_lines.specs.Name.{is_name}
+use Rattle.std.specs.Prelude.{ℕ, List, [], ◌∷◌, min, codes}
 use Rattle.script_lang.specs.declared.instr.Instr.{Instr}
 use Rattle.script_lang.specs.declared.instr.Instr.TheVariants as instr
 use Rattle.script_asm.specs.declared.op.Op.{Op}
@@ -113,4 +109,3 @@ instr_of op.Await a b c d e = instr.Await (reg a) (reg b)
 instr_of op.Advance a b c d e = instr.Advance (reg a)
 instr_of op.Ticket a b c d e = instr.Ticket (reg a)
 instr_of op.Out a b c d e = instr.Out (reg a)
-

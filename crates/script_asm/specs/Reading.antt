@@ -1,5 +1,5 @@
 -- Reading from left to right. Only private functions speak of it.
-use Rattle.std.specs.Prelude.{◌≡◌, ℕ, ◌+◌, List, Result, Ok, Err}
+use Rattle.std.specs.Prelude.{◌≡◌, ℕ, Result, Ok, Err}
 use Rattle.script_asm.specs.declared.fault.Code.{Code}
 use Rattle.script_asm.specs.declared.fault.Refusal.{Refusal}
 use Rattle.script_asm.specs.declared.fault.Refusal.TheVariants as refusal

@@ -55,20 +55,50 @@ fn values_of(instr: &Instr) -> [u64; 5]
         Instr::Sub(a, b) => [u64::from(a.number()), u64::from(b.number()), 0, 0, 0],
         Instr::Jump(a) => [u64::from(*a), 0, 0, 0, 0],
         Instr::JumpZ(a, b) => [u64::from(a.number()), u64::from(*b), 0, 0, 0],
-        Instr::JumpL(a, b, c) => [u64::from(a.number()), u64::from(b.number()), u64::from(*c), 0, 0],
+        Instr::JumpL(a, b, c) => [
+            u64::from(a.number()),
+            u64::from(b.number()),
+            u64::from(*c),
+            0,
+            0,
+        ],
         Instr::Get(a, b) => [u64::from(a.number()), u64::from(b.number()), 0, 0, 0],
         Instr::Put(a, b) => [u64::from(a.number()), u64::from(b.number()), 0, 0, 0],
         Instr::Call(a) => [u64::from(a.number()), 0, 0, 0, 0],
         Instr::Ret => [0, 0, 0, 0, 0],
         Instr::Spawn(a, b) => [u64::from(a.number()), u64::from(b.number()), 0, 0, 0],
-        Instr::MakeKnown(a, b, c) => [u64::from(a.number()), u64::from(b.number()), u64::from(c.number()), 0, 0],
+        Instr::MakeKnown(a, b, c) => [
+            u64::from(a.number()),
+            u64::from(b.number()),
+            u64::from(c.number()),
+            0,
+            0,
+        ],
         Instr::Terminate(a) => [u64::from(a.number()), 0, 0, 0, 0],
-        Instr::Create(a, b, c, d, e) => [u64::from(a.number()), u64::from(b.number()), u64::from(c.number()), u64::from(d.number()), u64::from(e.number())],
+        Instr::Create(a, b, c, d, e) => [
+            u64::from(a.number()),
+            u64::from(b.number()),
+            u64::from(c.number()),
+            u64::from(d.number()),
+            u64::from(e.number()),
+        ],
         Instr::Delete(a, b) => [u64::from(a.number()), u64::from(b.number()), 0, 0, 0],
         Instr::SwapIn(a) => [u64::from(a.number()), 0, 0, 0, 0],
         Instr::SwapOut(a) => [u64::from(a.number()), 0, 0, 0, 0],
-        Instr::Fetch(a, b, c, d) => [u64::from(a.number()), u64::from(b.number()), u64::from(c.number()), u64::from(d.number()), 0],
-        Instr::Update(a, b, c, d) => [u64::from(a.number()), u64::from(b.number()), u64::from(c.number()), u64::from(d.number()), 0],
+        Instr::Fetch(a, b, c, d) => [
+            u64::from(a.number()),
+            u64::from(b.number()),
+            u64::from(c.number()),
+            u64::from(d.number()),
+            0,
+        ],
+        Instr::Update(a, b, c, d) => [
+            u64::from(a.number()),
+            u64::from(b.number()),
+            u64::from(c.number()),
+            u64::from(d.number()),
+            0,
+        ],
         Instr::Read(a) => [u64::from(a.number()), 0, 0, 0, 0],
         Instr::Await(a, b) => [u64::from(a.number()), u64::from(b.number()), 0, 0, 0],
         Instr::Advance(a) => [u64::from(a.number()), 0, 0, 0, 0],
@@ -98,7 +128,12 @@ fn push_operand(alloc: Global, out: &mut String, kind: Kind, number: u64) -> Res
 
 /// Writes the operands, each with a blank in front.
 #[tactic(auto, using(crate::proofs::Pieces::pieces))]
-fn push_operands(alloc: Global, out: &mut String, kinds: &[Kind], numbers: &[u64]) -> Result<(), AllocError>
+fn push_operands(
+    alloc: Global,
+    out: &mut String,
+    kinds: &[Kind],
+    numbers: &[u64],
+) -> Result<(), AllocError>
     ensures { OnOk result (string_bytes out.new ≡ string_bytes out.old ++ spec.after_blanks (spec.operand_words kinds.now numbers.now)) }
 {
     let [kind, kinds @ ..] = kinds else {
