@@ -38,7 +38,8 @@ reads_in before after n buf text f len h keeps e = subst (ReadsIn before after) 
   told = reads_told (before 0).left (after 0).left n buf f len h;
   short = let k = length-take-le n buf (reads_short (before 0).left (after 0).left n buf f) in omega arith;
   ended = reads_end (before 0).left (after 0).left n buf f len h;
-  keeps = keeps })
+  keeps = keeps;
+})
 
 -- ---- the outcome
 
@@ -65,8 +66,13 @@ no_memory before after text r = record { others = r.keeps.others; silent = silen
 
 pub faulty : (before after : Ports) (text : List ℕ) (line code : ℕ) → ReadsIn before after text → line ≡ 0 → code ≡ 40 → ((k : ConfigText) → SpellsNarrow text k → ⊥) → Faulty before after line code
 faulty before after text line code r l c none = record {
-  text = text; read = record { told = r.told; short = r.short; ended = r.ended; others = r.keeps.others };
-  silent = silent before after r.keeps; none = none; line_is = l; code_is = c }
+  text = text;
+  read = record { told = r.told; short = r.short; ended = r.ended; others = r.keeps.others };
+  silent = silent before after r.keeps;
+  none = none;
+  line_is = l;
+  code_is = c;
+}
 
 end_same : (left middle after : Told) → after ≡ middle → IfTold left (λ bytes. middle ≡ Some []) → IfTold left (λ bytes. after ≡ Some [])
 end_same None middle after e h = tt
@@ -75,10 +81,15 @@ end_same (Some bytes) middle after e h = e ∙ h
 has_run : (before middle after : Ports) (text : List ℕ) (k : ConfigText) → ReadsIn before middle text → PushKeeps 0 middle after → SpellsNarrow text k → HasRun before after
 has_run before middle after text k r keeps s = record {
   text = text;
-  read = record { told = r.told; short = r.short; ended = end_same (before 0).left (middle 0).left (after 0).left keeps.left r.ended;
-    others = λ p n. keeps.others p n ∙ r.keeps.others p n };
+  read = record {
+    told = r.told;
+    short = r.short;
+    ended = end_same (before 0).left (middle 0).left (after 0).left keeps.left r.ended;
+    others = λ p n. keeps.others p n ∙ r.keeps.others p n;
+  };
   config = k;
-  spelled = s }
+  spelled = s;
+}
 
 pub wrote : (before middle after : Ports) (text : List ℕ) (k : ConfigText) (live : Bool) → ReadsIn before middle text → SpellsNarrow text k → Pushed middle after (report_for k)
     → live_after (configuration k []) (events_of k) ≡ live → Wrote before after live
@@ -86,20 +97,23 @@ unfolding has_run
 wrote before middle after text k live r s p l = record {
   ran = has_run before middle after text k r p.keeps s;
   taken = p.taken ∙ ap (λ (t : Told). with_bytes t (report_for k)) r.keeps.taken;
-  live_is = l }
+  live_is = l;
+}
 
 pub broke : (before middle after : Ports) (text : List ℕ) (k : ConfigText) → ReadsIn before middle text → SpellsNarrow text k → Torn middle after (report_for k) → Broke before after
 unfolding has_run
 broke before middle after text k r s p = record {
   ran = has_run before middle after text k r p.keeps s;
   taken = subst (λ (t : Told). IsPrefixTaken t (after 0).taken (report_for k)) r.keeps.taken p.taken;
-  rose = subst (λ (n : ℕ). Rose n (after 0).pushes) r.keeps.pushes p.rose }
+  rose = subst (λ (n : ℕ). Rose n (after 0).pushes) r.keeps.pushes p.rose;
+}
 
 untouched_in : (before middle after : Ports) (text : List ℕ) → ReadsIn before middle text → Untouched middle after → Stopped before after (Unit {0})
 untouched_in before middle after text r u = let n = no_memory before middle text r in record {
   others = λ p h. u p ∙ n.others p h;
   silent = record { taken = λ p. ap (λ (x : Port). x.taken) (u p) ∙ n.silent.taken p; pushes = λ p. ap (λ (x : Port). x.pushes) (u p) ∙ n.silent.pushes p };
-  shows = tt }
+  shows = tt;
+}
 
 -- the configuration that was read is run
 pub ran : (before middle after : Ports) (text : List ℕ) (k : ConfigText) (s : Status) → ReadsIn before middle text → SpellsNarrow text k → RunsAs k middle after s → Outcome before after s

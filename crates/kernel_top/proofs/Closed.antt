@@ -37,7 +37,7 @@ numbers_at s (suc n) (suc i) h = numbers_at (s + 1) n i (omega arith) ∙ omega 
 -- one class more is opened
 pub opened_more : (k : ConfigText) (n : ℕ) (xs ys : List RunOf) (x : RunOf) → xs ≡ map (opening_run k) (below n) → ys ≡ xs ++ x ∷ [] → x ≡ opening_run k n → ys ≡ map (opening_run k) (below (n + 1))
 opened_more k n xs ys x e p q =
-  p ∙ (ap (λ (t : List RunOf). t ++ x ∷ []) e ∙ (ap (λ (t : RunOf). map (opening_run k) (below n) ++ t ∷ []) q
+    p ∙ (ap (λ (t : List RunOf). t ++ x ∷ []) e ∙ (ap (λ (t : RunOf). map (opening_run k) (below n) ++ t ∷ []) q
     ∙ (sym (map-append (opening_run k) (below n) (n ∷ [])) ∙ ap (map (opening_run k)) (sym (below_more n)))))
 
 -- the first i classes have run
@@ -55,9 +55,9 @@ half_at k n i xs d h e = ap (λ (t : List RunOf). get_or t i d) (e ∙ half_here
 
 pub half_more : (k : ConfigText) (n i : ℕ) (xs ys : List RunOf) (x : RunOf) → i < n → xs ≡ half_run k n i → ys ≡ set xs i x → x ≡ closing_run k i → ys ≡ half_run k n (i + 1)
 half_more k n i xs ys x h e p q =
-  let front = map (closing_run k) (below i) in
-  let back = map (opening_run k) (numbers_from (i + 1) (n - (i + 1))) in
-  p ∙ (ap (λ (t : List RunOf). set t i x) (e ∙ half_here k n i h) ∙ (set_at front (opening_run k i) back x i (front_length k i)
+    let front = map (closing_run k) (below i) in
+    let back = map (opening_run k) (numbers_from (i + 1) (n - (i + 1))) in
+    p ∙ (ap (λ (t : List RunOf). set t i x) (e ∙ half_here k n i h) ∙ (set_at front (opening_run k i) back x i (front_length k i)
     ∙ (ap (λ (t : RunOf). front ++ t ∷ back) q ∙ (sym (append_assoc front (closing_run k i ∷ []) back)
     ∙ ap (λ (t : List RunOf). t ++ back) (sym (map-append (closing_run k) (below i) (i ∷ [])) ∙ ap (map (closing_run k)) (sym (below_more i)))))))
 
@@ -66,8 +66,8 @@ half_begin k n = let e : n ≡ n - 0 = omega arith in ap (λ (m : ℕ). map (ope
 
 pub half_end : (k : ConfigText) (n i : ℕ) (xs : List RunOf) → i ≡ n → xs ≡ half_run k n i → xs ≡ map (closing_run k) (below n)
 half_end k n i xs h e =
-  let z : n - i ≡ 0 = omega arith in
-  e ∙ (ap (λ (m : ℕ). map (closing_run k) (below i) ++ map (opening_run k) (numbers_from i m)) z ∙ (append-nil (map (closing_run k) (below i)) ∙ ap (λ (m : ℕ). map (closing_run k) (below m)) h))
+    let z : n - i ≡ 0 = omega arith in
+    e ∙ (ap (λ (m : ℕ). map (closing_run k) (below i) ++ map (opening_run k) (numbers_from i m)) z ∙ (append-nil (map (closing_run k) (below i)) ∙ ap (λ (m : ℕ). map (closing_run k) (below m)) h))
 
 pub half_length : (k : ConfigText) (n : ℕ) → length (map (opening_run k) (below n)) ≡ n
 half_length k n = length-map (below n) (opening_run k) ∙ length_numbers 0 n
@@ -87,19 +87,19 @@ module _ (k : ConfigText) (valid : IsValid k) (narrow : IsNarrow k) (xs : List R
   -- the sections of the classes by themselves are the report
   pub closed_report : flat_map (own_section k) xs ≡ report_for k
   closed_report = ap (flat_map (own_section k)) closed ∙ (flat_map-map (own_section k) (closing_run k) (below (length k.table))
-    ∙ (ap (λ (f : ℕ → List ℕ). flat_map f (below (length k.table))) (λ i c. own_is c i) ∙ sym (text_report k valid narrow)))
+      ∙ (ap (λ (f : ℕ → List ℕ). flat_map f (below (length k.table))) (λ i c. own_is c i) ∙ sym (text_report k valid narrow)))
 
   -- and a class of them is live exactly where a process is
   pub closed_live : list_any (λ (x : RunOf). run_is_live x.run) xs ≡ live_after (configuration k []) (events_of k)
   closed_live = ap (list_any (λ (x : RunOf). run_is_live x.run)) closed ∙ (list_any-map (λ (x : RunOf). run_is_live x.run) (closing_run k) (below (length k.table))
-    ∙ (ap (λ (f : ℕ → Bool). list_any f (below (length k.table))) (λ i c. run_is_live (class_run k c)) ∙ sym (text_live k valid narrow)))
+      ∙ (ap (λ (f : ℕ → Bool). list_any f (below (length k.table))) (λ i c. run_is_live (class_run k c)) ∙ sym (text_live k valid narrow)))
 
 -- the classes are in the table
 pub closed_classes_in : (k : ConfigText) (n : ℕ) (xs : List RunOf) → xs ≡ map (closing_run k) (below n) → (i : ℕ) (d : RunOf) → i < length xs → (get_or xs i d).class < n
 closed_classes_in k n xs e i d h =
-  let len : length xs ≡ n = ap length e ∙ (length-map (below n) (closing_run k) ∙ length_numbers 0 n) in
-  let small : i < length (below n) = let l = length_numbers 0 n in omega arith in
-  let at : get_or xs i d ≡ closing_run k (get_or (below n) i 0) = ap (λ (t : List RunOf). get_or t i d) e ∙ get_or-map (closing_run k) (below n) i 0 d small in
-  let place : get_or (below n) i 0 ≡ 0 + i = numbers_at 0 n i (omega arith) in
-  let c : (get_or xs i d).class ≡ get_or (below n) i 0 = ap (λ (x : RunOf). x.class) at in
-  omega arith
+    let len : length xs ≡ n = ap length e ∙ (length-map (below n) (closing_run k) ∙ length_numbers 0 n) in
+    let small : i < length (below n) = let l = length_numbers 0 n in omega arith in
+    let at : get_or xs i d ≡ closing_run k (get_or (below n) i 0) = ap (λ (t : List RunOf). get_or t i d) e ∙ get_or-map (closing_run k) (below n) i 0 d small in
+    let place : get_or (below n) i 0 ≡ 0 + i = numbers_at 0 n i (omega arith) in
+    let c : (get_or xs i d).class ≡ get_or (below n) i 0 = ap (λ (x : RunOf). x.class) at in
+    omega arith

@@ -1,7 +1,6 @@
 pub mod Answers
 pub mod Closed
 pub mod Headline
-
 pub mod Runs
 pub mod Scripts
 pub mod Sections

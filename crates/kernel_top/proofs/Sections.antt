@@ -32,7 +32,7 @@ closing_of x = closing_text (some_live (seen_process x.run.process)) []
 
 pub head_is : (k : ConfigText) (x : RunOf) (text name : List ℕ) (c d : ℕ) → text ≡ line_of (codes "class" ∷ decimal c ∷ name ∷ []) → c ≡ x.class → d ≡ x.class → name ≡ (class_at k.table d).name → text ≡ head_of k x
 head_is k x text name c d e p q n =
-  e ∙ (ap (λ (t : ℕ). line_of (codes "class" ∷ decimal t ∷ name ∷ [])) p ∙ ap (λ (t : List ℕ). line_of (codes "class" ∷ decimal x.class ∷ t ∷ [])) (n ∙ ap (λ (t : ℕ). (class_at k.table t).name) q))
+    e ∙ (ap (λ (t : ℕ). line_of (codes "class" ∷ decimal t ∷ name ∷ [])) p ∙ ap (λ (t : List ℕ). line_of (codes "class" ∷ decimal x.class ∷ t ∷ [])) (n ∙ ap (λ (t : ℕ). (class_at k.table t).name) q))
 
 one_live : (b : Bool) → b ≡ (b || false)
 one_live true = refl
@@ -48,20 +48,20 @@ closing_is x text live e l = e ∙ ap (λ (b : Bool). closing_text b []) (l ∙ 
 module _ (k : ConfigText) (x : RunOf) (before : ℕ → Port) where
   pub torn_head : (after : ℕ → Port) → Torn before after (head_of k x) → Torn before after (own_section k x)
   torn_head after t = torn_more before after (head_of k x ++ lines_of x ++ process_of x) (closing_of x)
-    (torn_more before after (head_of k x ++ lines_of x) (process_of x) (torn_more before after (head_of k x) (lines_of x) t))
+      (torn_more before after (head_of k x ++ lines_of x) (process_of x) (torn_more before after (head_of k x) (lines_of x) t))
 
   pub torn_lines : (one after : ℕ → Port) → Pushed before one (head_of k x) → Torn one after (lines_of x) → Torn before after (own_section k x)
   torn_lines one after p t = torn_more before after (head_of k x ++ lines_of x ++ process_of x) (closing_of x)
-    (torn_more before after (head_of k x ++ lines_of x) (process_of x) (pushed_torn before one after (head_of k x) (lines_of x) p t))
+      (torn_more before after (head_of k x ++ lines_of x) (process_of x) (pushed_torn before one after (head_of k x) (lines_of x) p t))
 
   pub torn_process : (one two after : ℕ → Port) → Pushed before one (head_of k x) → Pushed one two (lines_of x) → Torn two after (process_of x) → Torn before after (own_section k x)
   torn_process one two after p q t = torn_more before after (head_of k x ++ lines_of x ++ process_of x) (closing_of x)
-    (pushed_torn before two after (head_of k x ++ lines_of x) (process_of x) (pushed_then before one two (head_of k x) (lines_of x) p q) t)
+      (pushed_torn before two after (head_of k x ++ lines_of x) (process_of x) (pushed_then before one two (head_of k x) (lines_of x) p q) t)
 
   pub prints_closing : (one two three after : ℕ → Port) (r : Result (Unit {0}) Failed) → Pushed before one (head_of k x) → Pushed one two (lines_of x) → Pushed two three (process_of x)
-    → Prints three after (closing_of x) r → Prints before after (own_section k x) r
+      → Prints three after (closing_of x) r → Prints before after (own_section k x) r
   prints_closing one two three after r p q s c = prints_then before three after (head_of k x ++ lines_of x ++ process_of x) (closing_of x) r
-    (pushed_then before two three (head_of k x ++ lines_of x) (process_of x) (pushed_then before one two (head_of k x) (lines_of x) p q) s) c
+      (pushed_then before two three (head_of k x ++ lines_of x) (process_of x) (pushed_then before one two (head_of k x) (lines_of x) p q) s) c
 
 -- the two lines of a process
 pub registers_last : (before one after : ℕ → Port) (first last regs rest : List ℕ) (line : List ℕ → List ℕ) (r : Result (Unit {0}) Failed) → Pushed before one first → last ≡ line regs → regs ≡ rest → Prints one after last r → Prints before after (first ++ line rest) r
@@ -79,11 +79,11 @@ prints_as before after s t r e p = subst (λ (x : List ℕ). Prints before after
 table_short : (xs : List ClassEntry) (c : ℕ) → list_all (λ (x : ClassEntry). is_name x.name) xs ≡ true → c < length xs → length (class_at xs c).name ≤ 16
 table_short [] c h l = absurd (omega arith)
 table_short (x ∷ xs) zero h l =
-  let one : (is_name x.name ≡ true) × (list_all (λ (y : ClassEntry). is_name y.name) xs ≡ true) = and_parts _ _ h in
-  leb-true (length x.name) 16 (and_parts _ _ (and_parts _ _ one.0).0).1
+    let one : (is_name x.name ≡ true) × (list_all (λ (y : ClassEntry). is_name y.name) xs ≡ true) = and_parts _ _ h in
+    leb-true (length x.name) 16 (and_parts _ _ (and_parts _ _ one.0).0).1
 table_short (x ∷ xs) (suc c) h l =
-  let one : (is_name x.name ≡ true) × (list_all (λ (y : ClassEntry). is_name y.name) xs ≡ true) = and_parts _ _ h in
-  table_short xs c one.1 (omega arith)
+    let one : (is_name x.name ≡ true) × (list_all (λ (y : ClassEntry). is_name y.name) xs ≡ true) = and_parts _ _ h in
+    table_short xs c one.1 (omega arith)
 
 -- the name of a class has at most 16 bytes
 pub name_short : (k : ConfigText) (x : RunOf) (name : List ℕ) (d : ℕ) → IsValid k → x.class < length k.table → d ≡ x.class → name ≡ (class_at k.table d).name → length name ≤ 16

@@ -37,7 +37,8 @@ pub pushed_then : (before now after : ℕ → Port) (xs ys : List ℕ) → Pushe
 pushed_then before now after xs ys f g = record {
   taken = g.taken ∙ (ap (λ (t : Told). with_bytes t ys) f.taken ∙ with_more (before 0).taken xs ys);
   keeps = keeps_on before now after f.keeps g.keeps;
-  later = le_trans f.later g.later }
+  later = le_trans f.later g.later;
+}
 
 rose_on : (a b c : ℕ) → a ≤ b → Rose b c → Rose a c
 rose_on a b c h r = omega arith
@@ -46,7 +47,8 @@ prefix_on : (b m a : Told) (xs ys : List ℕ) → m ≡ with_bytes b xs → IsPr
 prefix_on b m a xs ys e p = record {
   count = length xs + p.count;
   proper = let h = p.proper in omega (arith, length-append xs ys);
-  took = p.took ∙ (ap (λ (t : Told). with_bytes t (take p.count ys)) e ∙ (with_more b xs (take p.count ys) ∙ ap (with_bytes b) (sym (take_behind xs ys p.count)))) }
+  took = p.took ∙ (ap (λ (t : Told). with_bytes t (take p.count ys)) e ∙ (with_more b xs (take p.count ys) ∙ ap (with_bytes b) (sym (take_behind xs ys p.count))));
+}
   where
     take_behind : (xs ys : List ℕ) (n : ℕ) → take (length xs + n) (xs ++ ys) ≡ xs ++ take n ys
     take_behind [] ys n = let z : 0 + n ≡ n = omega arith in ap (λ (m : ℕ). take m ys) z
@@ -57,7 +59,8 @@ pub pushed_torn : (before now after : ℕ → Port) (xs ys : List ℕ) → Pushe
 pushed_torn before now after xs ys f g = record {
   taken = prefix_on (before 0).taken (now 0).taken (after 0).taken xs ys f.taken g.taken;
   keeps = keeps_on before now after f.keeps g.keeps;
-  rose = rose_on (before 0).pushes (now 0).pushes (after 0).pushes f.later g.rose }
+  rose = rose_on (before 0).pushes (now 0).pushes (after 0).pushes f.later g.rose;
+}
 
 -- a fault before more that is due
 pub torn_more : (before after : ℕ → Port) (xs ys : List ℕ) → Torn before after xs → Torn before after (xs ++ ys)
@@ -65,9 +68,11 @@ torn_more before after xs ys f = let p = f.taken in record {
   taken = record {
     count = p.count;
     proper = let h = p.proper in omega (arith, length-append xs ys);
-    took = p.took ∙ ap (with_bytes (before 0).taken) (sym (take-append-le p.count xs ys (let h = p.proper in omega arith))) };
+    took = p.took ∙ ap (with_bytes (before 0).taken) (sym (take-append-le p.count xs ys (let h = p.proper in omega arith)));
+  };
   keeps = f.keeps;
-  rose = f.rose }
+  rose = f.rose;
+}
 
 module _ {X : Type 0} (f : X → List ℕ) (before now after : ℕ → Port) (xs : List X) (i : ℕ) (d : X) where
   flat_take : i < length xs → flat_map f (take (i + 1) xs) ≡ flat_map f (take i xs) ++ f (get_or xs i d)
@@ -80,9 +85,9 @@ module _ {X : Type 0} (f : X → List ℕ) (before now after : ℕ → Port) (xs
   -- a fault at an item
   pub printed_torn : Pushed before now (flat_map f (take i xs)) → i < length xs → Torn now after (f (get_or xs i d)) → Torn before after (flat_map f xs)
   printed_torn p h q =
-    let part = pushed_torn before now after (flat_map f (take i xs)) (f (get_or xs i d)) p q in
-    let all : flat_map f (take (i + 1) xs) ++ flat_map f (drop (i + 1) xs) ≡ flat_map f xs = sym (flat_map-append f (take (i + 1) xs) (drop (i + 1) xs)) ∙ ap (flat_map f) (take-append-drop (i + 1) xs) in
-    subst (Torn before after) all (torn_more before after (flat_map f (take (i + 1) xs)) (flat_map f (drop (i + 1) xs)) (subst (Torn before after) (sym (flat_take h)) part))
+      let part = pushed_torn before now after (flat_map f (take i xs)) (f (get_or xs i d)) p q in
+      let all : flat_map f (take (i + 1) xs) ++ flat_map f (drop (i + 1) xs) ≡ flat_map f xs = sym (flat_map-append f (take (i + 1) xs) (drop (i + 1) xs)) ∙ ap (flat_map f) (take-append-drop (i + 1) xs) in
+      subst (Torn before after) all (torn_more before after (flat_map f (take (i + 1) xs)) (flat_map f (drop (i + 1) xs)) (subst (Torn before after) (sym (flat_take h)) part))
 
   -- all items are printed
   pub printed_all : Pushed before after (flat_map f (take i xs)) → length xs ≤ i → Pushed before after (flat_map f xs)
@@ -92,7 +97,7 @@ module _ {X : Type 0} (f : X → List ℕ) (before now after : ℕ → Port) (xs
 pub register_more : (line next : List ℕ) (xs : List ℕ) (i : ℕ) → i < length xs → line ≡ codes "regs" ++ flat_map blanked (map decimal (take i xs)) → next ≡ line ++ 32 ∷ decimal (get_or xs i 0)
     → next ≡ codes "regs" ++ flat_map blanked (map decimal (take (i + 1) xs))
 register_more line next xs i h e n =
-  n ∙ (ap (λ (t : List ℕ). t ++ 32 ∷ decimal (get_or xs i 0)) e
+    n ∙ (ap (λ (t : List ℕ). t ++ 32 ∷ decimal (get_or xs i 0)) e
     ∙ (flat_map_more blanked (codes "regs") (map decimal (take i xs)) (decimal (get_or xs i 0))
     ∙ ap (λ (t : List (List ℕ)). codes "regs" ++ flat_map blanked t) (sym (map_more decimal xs i 0 h))))
 
@@ -100,7 +105,7 @@ register_more line next xs i h e n =
 pub registers_end : (line next : List ℕ) (xs : List ℕ) (i : ℕ) → length xs ≤ i → line ≡ codes "regs" ++ flat_map blanked (map decimal (take i xs)) → next ≡ line ++ 10 ∷ []
     → next ≡ join_with_byte 32 (codes "regs" ∷ map decimal xs) ++ 10 ∷ []
 registers_end line next xs i h e n =
-  n ∙ ap (λ (t : List ℕ). t ++ 10 ∷ []) (e ∙ (ap (λ (ys : List ℕ). codes "regs" ++ flat_map blanked (map decimal ys)) (take_all i xs h) ∙ sym (join-first (codes "regs") (map decimal xs))))
+    n ∙ ap (λ (t : List ℕ). t ++ 10 ∷ []) (e ∙ (ap (λ (ys : List ℕ). codes "regs" ++ flat_map blanked (map decimal ys)) (take_all i xs h) ∙ sym (join-first (codes "regs") (map decimal xs))))
 
 pub err_prints : (before after : ℕ → Port) (text : List ℕ) (r : Result (Unit {0}) Failed) → IsErr r → Torn before after text → Prints before after text r
 err_prints before after text (Ok x) h t = cc

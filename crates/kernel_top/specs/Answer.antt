@@ -115,7 +115,7 @@ Reported before after = OfConfiguration before.left (λ k. after.taken ≡ with_
 -- At a write fault port 0 has taken a proper prefix of that report.
 abbrev pub PrefixShows : Port → Port → Status → Type 0
 PrefixShows before after (HostFault (Write port)) =
-  OfConfiguration before.left (λ k. IsPrefixTaken before.taken after.taken (report_for k))
+    OfConfiguration before.left (λ k. IsPrefixTaken before.taken after.taken (report_for k))
 PrefixShows before after _ = Unit {0}
 
 -- Done comes exactly where no process is live after all events, Unfinished where one is.

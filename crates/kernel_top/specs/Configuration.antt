@@ -27,11 +27,16 @@ configuration k records = record {
   table = k.table;
   pools = map pool_of_text k.pools;
   volumes = map (λ (p : PoolText). p.volume) k.pools;
-  processors = k.processors; cycle = k.cycle; rounds = k.rounds; quantum = k.quantum; console = k.console;
+  processors = k.processors;
+  cycle = k.cycle;
+  rounds = k.rounds;
+  quantum = k.quantum;
+  console = k.console;
   scripts = map (λ x. Some (script_of_text x)) k.scripts;
   gates = map (λ g. Some (gate_of_text g)) k.gates;
   processes = map process_of_text k.processes;
-  records = records }
+  records = records;
+}
 
 -- the header of its schedule
 abbrev pub shape_of : ConfigText → Shape

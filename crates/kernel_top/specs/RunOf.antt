@@ -20,8 +20,11 @@ opening_run k c = record { class = c; console = k.console; run = class_opening (
 
 -- after all events of the schedule
 abbrev pub closing_run : ConfigText → ℕ → RunOf
-closing_run k c = record { class = c; console = k.console;
-  run = class_after (shared_of (configuration k [])) c (count_of c (events_of k)) (class_opening (configuration k []) c) }
+closing_run k c = record {
+  class = c;
+  console = k.console;
+  run = class_after (shared_of (configuration k [])) c (count_of c (events_of k)) (class_opening (configuration k []) c);
+}
 
 -- how many events of class d an item of events has
 abbrev pub item_events : ℕ → Item → ℕ

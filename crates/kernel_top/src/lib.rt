@@ -6,8 +6,10 @@ mod input;
 mod line;
 mod print;
 mod status;
-mod top;
+#[cfg(test)]
+mod tests;
 mod thin_run;
+mod top;
 
 pub use status::{PortFault, Refusal, Status};
 pub use top::sim_main;

@@ -9,11 +9,10 @@ ghost use Rattle.kernel_top.specs.RunOf.{RunOf};
 ghost use Rattle.config_text.specs.Valid.{IsValid};
 ghost use Rattle.kernel_top.specs.Printing.{Prints, own_section};
 
-use config_text::Config;
-use host_ports::{Failed, Host, push_whole};
-
 use crate::line::Line;
 use crate::thin_run::{ThinProcess, ThinRun};
+use config_text::Config;
+use host_ports::{Failed, Host, push_whole};
 
 fn push_line<H: Host>(host: &mut H, line: &Line) -> Result<(), Failed>
     ensures { Prints (H.ports host.old) (H.ports host.new) line.now result }
@@ -85,7 +84,11 @@ fn registers_line(registers: &[u64]) -> Line
 fn closing_line(live: bool) -> Line
     ensures { result ≡ closing_text live [] }
 {
-    let mut line = if live { Line::of(b"open") } else { Line::of(b"closed") };
+    let mut line = if live {
+        Line::of(b"open")
+    } else {
+        Line::of(b"closed")
+    };
     line.end();
     line
 }

@@ -273,7 +273,11 @@ fn events_in(item: &Item, class: u8) -> u32
     ensures { result ≡ item_events class item.now }
 {
     match item {
-        Item::Events { class: of, count, .. } if *of == class => *count,
+        Item::Events {
+            class: of,
+            count,
+            ..
+        } if *of == class => *count,
         _ => 0,
     }
 }

@@ -12,25 +12,25 @@ loop-i-init c = c.requires.opened ∙ half_begin c.args.config.now (length c.arg
 
 pub run_schedule-requires-clause-console : goal.run_schedule-requires-clause-console
 run_schedule-requires-clause-console c =
-  let k = c.args.config.now in
-  let small : c.loop-i.i < length k.table = omega (arith, ap length c.requires.opened, half_length k (length k.table), c.args.runs.now.ok.0) in
-  ap (λ (x : RunOf). x.console) (c.index_mut.ensures.value ∙ half_at k (length k.table) c.loop-i.i c.loop-i.runs.items c.index_mut.result.now small c.loop-i.invariant)
+    let k = c.args.config.now in
+    let small : c.loop-i.i < length k.table = omega (arith, ap length c.requires.opened, half_length k (length k.table), c.args.runs.now.ok.0) in
+    ap (λ (x : RunOf). x.console) (c.index_mut.ensures.value ∙ half_at k (length k.table) c.loop-i.i c.loop-i.runs.items c.index_mut.result.now small c.loop-i.invariant)
 
 pub run_schedule-requires-clause-begins : goal.run_schedule-requires-clause-begins
 run_schedule-requires-clause-begins c =
-  let k = c.args.config.now in
-  let small : c.loop-i.i < length k.table = omega (arith, ap length c.requires.opened, half_length k (length k.table), c.args.runs.now.ok.0) in
-  ap (λ (x : RunOf). x.run.used) (c.index_mut.ensures.value ∙ half_at k (length k.table) c.loop-i.i c.loop-i.runs.items c.index_mut.result.now small c.loop-i.invariant)
+    let k = c.args.config.now in
+    let small : c.loop-i.i < length k.table = omega (arith, ap length c.requires.opened, half_length k (length k.table), c.args.runs.now.ok.0) in
+    ap (λ (x : RunOf). x.run.used) (c.index_mut.ensures.value ∙ half_at k (length k.table) c.loop-i.i c.loop-i.runs.items c.index_mut.result.now small c.loop-i.invariant)
 
 pub loop-i-preserved : goal.loop-i-preserved
 loop-i-preserved c =
-  let k = c.args.config.now in
-  let small : c.loop-i.i < length k.table = omega (arith, ap length c.requires.opened, half_length k (length k.table), c.args.runs.now.ok.0) in
-  let opened = c.index_mut.ensures.value ∙ half_at k (length k.table) c.loop-i.i c.loop-i.runs.items c.index_mut.result.now small c.loop-i.invariant in
-  half_more k (length k.table) c.loop-i.i c.loop-i.runs.items _ c.run_schedule.new.self small c.loop-i.invariant refl
+    let k = c.args.config.now in
+    let small : c.loop-i.i < length k.table = omega (arith, ap length c.requires.opened, half_length k (length k.table), c.args.runs.now.ok.0) in
+    let opened = c.index_mut.ensures.value ∙ half_at k (length k.table) c.loop-i.i c.loop-i.runs.items c.index_mut.result.now small c.loop-i.invariant in
+    half_more k (length k.table) c.loop-i.i c.loop-i.runs.items _ c.run_schedule.new.self small c.loop-i.invariant refl
     (c.run_schedule.ensures ∙ ap (λ (x : RunOf). record { class = x.class; console = x.console; run = class_after (shared_of (configuration k [])) x.class (count_of x.class (events_of k)) x.run }) opened)
 
 pub returns : goal.returns
 returns c =
-  let k = c.args.config.now in
-  half_end k (length k.table) c.loop-i.i c.loop-i.runs.items (omega (arith, ap length c.requires.opened, half_length k (length k.table), c.args.runs.now.ok.0)) c.loop-i.invariant
+    let k = c.args.config.now in
+    half_end k (length k.table) c.loop-i.i c.loop-i.runs.items (omega (arith, ap length c.requires.opened, half_length k (length k.table), c.args.runs.now.ok.0)) c.loop-i.invariant

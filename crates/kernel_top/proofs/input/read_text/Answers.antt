@@ -5,5 +5,5 @@ use Rattle.kernel_top.proofs.input.read_text.Goals as goal
 
 pub returns-clause-text : goal.returns-clause-text
 returns-clause-text g c =
-  reads_in _ _ _ _ _ c.in-Ok-pull_whole.ensures.bytes (omega (arith, c.in-Ok.ensures)) c.if-count-gt-LIMIT.false c.pull_whole.ensures.keeps
+    reads_in _ _ _ _ _ c.in-Ok-pull_whole.ensures.bytes (omega (arith, c.in-Ok.ensures)) c.if-count-gt-LIMIT.false c.pull_whole.ensures.keeps
     (c.truncate.ensures.items ∙ ap (take c.in-Ok-pull_whole.count) (with_items_is c.in-Ok.buffer c.pull_whole.new.buf (omega (arith, c.in-Ok.ensures))))

@@ -17,7 +17,7 @@ loop-value-preserved g c = printed_more console _ _ _ c.args.values.now c.loop-v
 
 pub returns-in_err-push_line : goal.returns-in_err-push_line
 returns-in_err-push_line g c = err_prints _ _ _ _ c.from_residual.ensures.0
-  (printed_torn console _ _ _ c.args.values.now c.loop-value.value-index 0 c.loop-value.invariant c.loop-value-test.true (subst (Torn _ _) c.console_line.ensures c.in_err-push_line.ensures))
+    (printed_torn console _ _ _ c.args.values.now c.loop-value.value-index 0 c.loop-value.invariant c.loop-value-test.true (subst (Torn _ _) c.console_line.ensures c.in_err-push_line.ensures))
 
 pub returns : goal.returns
 returns g c = printed_all console (g.H.Host.ports c.args.host.now) (g.H.Host.ports c.args.host.now) (g.H.Host.ports c.loop-value.host) c.args.values.now c.loop-value.value-index 0 c.loop-value.invariant c.loop-value-test.false

@@ -8,4 +8,4 @@ use Rattle.kernel_top.proofs.print.print_lines.Given as goal
 
 abbrev pub invariant-loop-value : goal.invariant-loop-value
 invariant-loop-value g l =
-  Pushed (g.H.Host.ports l.fn.host) (g.H.Host.ports l.host) (flat_map (λ (v : ℕ). line_of (codes "line" ∷ decimal v ∷ [])) (take l.value-index l.values))
+    Pushed (g.H.Host.ports l.fn.host) (g.H.Host.ports l.host) (flat_map (λ (v : ℕ). line_of (codes "line" ∷ decimal v ∷ [])) (take l.value-index l.values))

@@ -7,4 +7,4 @@ use Rattle.kernel_top.proofs.print.registers_line.Given as goal
 
 abbrev pub invariant-loop-value : goal.invariant-loop-value
 invariant-loop-value l =
-  (l.line ≡ codes "regs" ++ flat_map blanked (map decimal (take l.value-index l.registers))) × (length l.line ≤ 4 + 21 * l.value-index)
+    (l.line ≡ codes "regs" ++ flat_map blanked (map decimal (take l.value-index l.registers))) × (length l.line ≤ 4 + 21 * l.value-index)

@@ -7,4 +7,4 @@ use Rattle.kernel_top.proofs.thin_run.opening_process.Given as goal
 
 abbrev pub invariant-loop-line : goal.invariant-loop-line
 invariant-loop-line l =
-  find (λ (x : ProcessLine). x.class == l.fn.class) (map process_of_text (drop l.line-index l.fn.config.processes)) ≡ find (λ (x : ProcessLine). x.class == l.fn.class) (map process_of_text l.fn.config.processes)
+    find (λ (x : ProcessLine). x.class == l.fn.class) (map process_of_text (drop l.line-index l.fn.config.processes)) ≡ find (λ (x : ProcessLine). x.class == l.fn.class) (map process_of_text l.fn.config.processes)

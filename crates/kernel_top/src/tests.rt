@@ -1,0 +1,129 @@
+//! The worked cases of `sim`.
+
+use crate::{PortFault, Refusal, Status, sim_main};
+use host_ports::MemoryHost;
+use std::alloc::{AllocError, Global};
+use std::test::Fail;
+
+/// One class has a process of three steps.
+const THREE_STEPS: &str =
+    "gemkernel 1\nclasses 2\nclass low 0{}/15{} frames 2 pages 2 volume 0\nclass high 1{}/15{} frames 2 pages 2 volume 0\nprocessors 1\ncycle 0\nrounds 1\nquantum 1\nconsole 100\nscript 0\nset r2 5\nout r2\nhalt\nend\nprocess 0 0 0 4\nevents 0.0*3\nend\n";
+
+/// The same, and only two events.
+const TWO_EVENTS: &str =
+    "gemkernel 1\nclasses 2\nclass low 0{}/15{} frames 2 pages 2 volume 0\nclass high 1{}/15{} frames 2 pages 2 volume 0\nprocessors 1\ncycle 0\nrounds 1\nquantum 1\nconsole 100\nscript 0\nset r2 5\nout r2\nhalt\nend\nprocess 0 0 0 4\nevents 0.0*2\nend\n";
+
+/// No script and no process.
+const NOTHING: &str =
+    "gemkernel 1\nclasses 2\nclass low 0{}/15{} frames 2 pages 2 volume 0\nclass high 1{}/15{} frames 2 pages 2 volume 0\nprocessors 1\ncycle 0\nrounds 1\nquantum 1\nconsole 100\nend\n";
+
+const ENDED: &str =
+    "class 0 low\nline 5\nprocess 0 0 ended script 0 place 2 ring 4\nregs 0 0 5 0 0 0 0 0 0 0 0 0 0 0 0 0\nclosed\nclass 1 high\nclosed\n";
+
+const LIVE: &str =
+    "class 0 low\nline 5\nprocess 0 0 live script 0 place 2 ring 4\nregs 0 0 5 0 0 0 0 0 0 0 0 0 0 0 0 0\nopen\nclass 1 high\nclosed\n";
+
+const EMPTY: &str = "class 0 low\nclosed\nclass 1 high\nclosed\n";
+
+const READ_FAULT: Status = Status::HostFault(PortFault::Read { port: 0 });
+
+const WRITE_FAULT: Status = Status::HostFault(PortFault::Write { port: 0 });
+
+const NO_FORM: Status = Status::Refused(Refusal::Config { line: 0, code: 40 });
+
+/// A host with this text at port 0, which fails at one pull and one push, counted from 1, or at none.
+fn host_with(
+    alloc: Global,
+    text: &[u8],
+    room: usize,
+    pull: u32,
+    push: u32,
+) -> Result<MemoryHost, AllocError> {
+    let mut inputs = Vec::new(alloc);
+    inputs.push(Vec::from_slice(alloc, text)?)?;
+    inputs.push(Vec::new(alloc))?;
+    inputs.push(Vec::new(alloc))?;
+    inputs.push(Vec::new(alloc))?;
+    inputs.push(Vec::new(alloc))?;
+    MemoryHost::new(
+        alloc,
+        inputs,
+        4096,
+        room,
+        Vec::from_slice(alloc, &[pull])?,
+        Vec::from_slice(alloc, &[push])?,
+    )
+}
+
+/// The answer to the words, and what port 0 has taken.
+fn answer(
+    alloc: Global,
+    words: &[&str],
+    text: &[u8],
+    room: usize,
+    pull: u32,
+    push: u32,
+) -> Result<(Status, Vec<u8>), AllocError> {
+    let mut host = host_with(alloc, text, room, pull, push)?;
+    let status = sim_main(alloc, words, &mut host);
+    Ok((status, Vec::from_slice(alloc, host.taken(0))?))
+}
+
+#[test]
+fn each_answer(rt: HostRuntime) -> Result<(), Fail> {
+    let cases = [
+        (THREE_STEPS, 1000, 0, 0, Status::Done, ENDED),
+        (TWO_EVENTS, 1000, 0, 0, Status::Unfinished, LIVE),
+        (NOTHING, 1000, 0, 0, Status::Done, EMPTY),
+        (
+            THREE_STEPS,
+            1000,
+            0,
+            3,
+            WRITE_FAULT,
+            "class 0 low\nline 5\n",
+        ),
+        (THREE_STEPS, 1000, 1, 0, READ_FAULT, ""),
+        (THREE_STEPS, 0, 0, 0, WRITE_FAULT, ""),
+        (THREE_STEPS, 1, 0, 0, WRITE_FAULT, ""),
+        (
+            THREE_STEPS,
+            100,
+            0,
+            0,
+            WRITE_FAULT,
+            "class 0 low\nline 5\nprocess 0 0 ended script 0 place 2 ring 4\nregs 0 0 5 0 0 0 0 0 0 0 0 0 0 0 0 0\n",
+        ),
+        ("", 1000, 0, 0, NO_FORM, ""),
+        ("gemkernel 2\n", 1000, 0, 0, NO_FORM, ""),
+    ];
+    for (text, room, pull, push, status, taken) in cases {
+        let found = answer(rt.alloc(), &["sim"], text.as_bytes(), room, pull, push)?;
+        assert_eq!(rt; found.0, status, "{text}");
+        assert_eq!(rt; found.1.as_slice(), taken.as_bytes(), "{text}");
+    }
+    Ok(())
+}
+
+#[test]
+fn other_words(rt: HostRuntime) -> Result<(), Fail> {
+    let none: [&str; 0] = [];
+    let lists: [&[&str]; 5] = [&none, &["run"], &["sim", "x"], &["Sim"], &["--help"]];
+    for words in lists {
+        let found = answer(rt.alloc(), words, THREE_STEPS.as_bytes(), 1000, 0, 0)?;
+        assert_eq!(rt; found.0, Status::Usage { kind: 3 });
+        assert_eq!(rt; found.1.len(), 0);
+    }
+    Ok(())
+}
+
+#[test]
+fn too_long(rt: HostRuntime) -> Result<(), Fail> {
+    let text = vec![in rt.alloc(); 32u8; 1_048_577]?;
+    let found = answer(rt.alloc(), &["sim"], text.as_slice(), 1000, 0, 0)?;
+    assert_eq!(rt; found.0, Status::Refused(Refusal::TooLong { port: 0 }));
+    assert_eq!(rt; found.1.len(), 0);
+    let rest = answer(rt.alloc(), &["sim"], &text[..1_048_576], 1000, 0, 0)?;
+    assert_eq!(rt; rest.0, NO_FORM);
+    Ok(())
+}
