@@ -40,7 +40,12 @@ alias_brackets a = record { r1 = a.r1; r2 = a.r2; r3 = a.r3 }
 -- the segment of an entry of a mentor, known with these rights
 abbrev pub known_by : ℕ → Alias → ℕ → Known
 known_by mentor_class a rights = record {
-  seg = seg mentor_class a.serial; class = a.class; brackets = alias_brackets a; size = a.size; rights = rights }
+  seg = seg mentor_class a.serial;
+  class = a.class;
+  brackets = alias_brackets a;
+  size = a.size;
+  rights = rights;
+}
 
 -- the alias of a new segment
 abbrev pub new_alias : ℕ → Brackets → ℕ → ℕ → Alias

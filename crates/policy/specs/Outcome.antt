@@ -17,11 +17,11 @@ pub record Tally : Type 0 where
 pub data Outcome : Type 0 where
   Refused : Rule → Outcome
   Value : ℕ → Outcome
-  Learns : Known → Outcome              -- a segment for the known table
+  Learns : Known → Outcome  -- a segment for the known table
   Words : (pad : ℕ) → List ℕ → Outcome  -- words for the pad, from that place on
-  Printed : (place value : ℕ) → Outcome -- a console line
-  Looked : Option Tally → Outcome       -- one look more, and the tally so far; none where it begins again
-  Counted : (sum : ℕ) → Outcome         -- the last look, and the sum of all
+  Printed : (place value : ℕ) → Outcome  -- a console line
+  Looked : Option Tally → Outcome  -- one look more, and the tally so far; none where it begins again
+  Counted : (sum : ℕ) → Outcome  -- the last look, and the sum of all
 
 -- what an entry shows by a verdict on it
 abbrev pub judged : Option Rule → Known → Outcome
@@ -32,7 +32,7 @@ judged (Some rule) k = Refused rule
 abbrev pub shown : List ClassEntry → ℕ → ℕ → ℕ → ℕ → Option Alias → Outcome
 shown table d ring m mode None = Refused NoEntry
 shown table d ring m mode (Some a) =
-  judged (verdict (label_of table d) ring (label_of table a.class) (alias_brackets a) mode) (known_by m a (rights_of mode))
+    judged (verdict (label_of table d) ring (label_of table a.class) (alias_brackets a) mode) (known_by m a (rights_of mode))
 
 -- the classes whose components make up the eventcount of a segment of class x, in class order
 abbrev pub components : List ClassEntry → ℕ → List ℕ
@@ -41,5 +41,5 @@ components table x = filter (λ c. at_or_below table c x) (below (length table))
 -- What the look at the next of n components shows: the sum at the last one, unless more is wanted.
 abbrev pub tallied : (n wanted : ℕ) → Tally → ℕ → Outcome
 tallied n wanted t value = let sum = (t.sum + value) % 2 ^ 64 in
-  if nat_lt (t.seen + 1) n then Looked (Some (record { seen = t.seen + 1; sum = sum }))
-  else (if nat_lt sum wanted then Looked None else Counted sum)
+    if nat_lt (t.seen + 1) n then Looked (Some (record { seen = t.seen + 1; sum = sum }))
+    else (if nat_lt sum wanted then Looked None else Counted sum)

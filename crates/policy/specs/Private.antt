@@ -16,7 +16,7 @@ entry_test entry = nat_lt 7 entry ⇒ BadEntry
 -- count words from offset on, and as many of the pad: none of them past the end
 abbrev pub bounds_test : Known → ℕ → ℕ → ℕ → Bool × Rule
 bounds_test k offset count pad =
-  count == 0 || nat_lt 64 count || nat_lt k.size (offset + count) || nat_lt 64 (pad + count) ⇒ Bounds
+    count == 0 || nat_lt 64 count || nat_lt k.size (offset + count) || nat_lt 64 (pad + count) ⇒ Bounds
 
 -- before reading
 abbrev pub read_tests : ℕ → Known → List (Bool × Rule)
@@ -28,7 +28,7 @@ change_tests ring k more = (not (modifies k.rights) ⇒ NotModify) ∷ (not (may
 
 abbrev pub make_known_tests : ℕ → ℕ → ℕ → Bool → Known → List (Bool × Rule)
 make_known_tests ring entry mode full k =
-  ring_read_test ring k ∷ entry_test entry ∷ (not (mode == 1 || mode == 2 || mode == 3) ⇒ BadMode) ∷ (full ⇒ KstFull) ∷ []
+    ring_read_test ring k ∷ entry_test entry ∷ (not (mode == 1 || mode == 2 || mode == 3) ⇒ BadMode) ∷ (full ⇒ KstFull) ∷ []
 
 -- brackets as a number, 64 r1 + 8 r2 + r3
 abbrev pub brackets_of : ℕ → Brackets
@@ -36,11 +36,11 @@ brackets_of n = record { r1 = n / 64; r2 = n / 8 % 8; r3 = n % 8 }
 
 abbrev pub create_tests : List ClassEntry → ℕ → ℕ → ℕ → ℕ → ℕ → Known → List (Bool × Rule)
 create_tests table ring entry class brackets size k = change_tests ring k (
-  entry_test entry ∷
-  (nat_le (length table) class ⇒ BadClass) ∷
-  (not (at_or_below table k.class class) ⇒ Compat) ∷
-  (nat_lt 511 brackets || not (in_order (brackets_of brackets)) ⇒ BadBrackets) ∷
-  (size == 0 || nat_lt 64 size ⇒ BadSize) ∷ [])
+    entry_test entry ∷
+    (nat_le (length table) class ⇒ BadClass) ∷
+    (not (at_or_below table k.class class) ⇒ Compat) ∷
+    (nat_lt 511 brackets || not (in_order (brackets_of brackets)) ⇒ BadBrackets) ∷
+    (size == 0 || nat_lt 64 size ⇒ BadSize) ∷ [])
 
 abbrev pub delete_tests : ℕ → ℕ → Known → List (Bool × Rule)
 delete_tests ring entry k = change_tests ring k (entry_test entry ∷ [])

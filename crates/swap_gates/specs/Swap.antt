@@ -14,7 +14,7 @@ use Rattle.turns.specs.Bodies.{Inner, Outer}
 abbrev pub find_free : (ℕ → GuardedWord) → ℕ → ℕ → (ℕ → Inner Outcome) → Inner Outcome → Inner Outcome
 find_free tenant i zero found none = none
 find_free tenant i (suc n) found none =
-  Inner.Load (tenant i) (λ w. if w == 0 then found i else find_free tenant (i + 1) n found none)
+    Inner.Load (tenant i) (λ w. if w == 0 then found i else find_free tenant (i + 1) n found none)
 
 -- n words of a frame from place i on are stored as 0
 abbrev pub zero_words : ℕ → ℕ → ℕ → Inner Outcome → Inner Outcome
@@ -34,7 +34,7 @@ fill_frame f size (Some g) rest = copy_words (PageWord g) (FrameWord f) 0 size r
 -- it comes into a frame
 abbrev pub bring_in : Known → Option ℕ → ℕ → Inner Outcome
 bring_in k page f = Inner.Store (FrameTenant f) (seg_number k.seg + 1) (fill_frame f k.size page
-  (Inner.Store (HomeOf k.seg) (pack_home (H.Resident f page k.size)) (Inner.Shows (Value 0))))
+    (Inner.Store (HomeOf k.seg) (pack_home (H.Resident f page k.size)) (Inner.Shows (Value 0))))
 
 abbrev pub swap_in_home : ℕ → Known → Home → Inner Outcome
 swap_in_home frames k H.Deleted = Inner.Shows (Refused Gone)
@@ -49,7 +49,7 @@ swap_in_body frames k = Outer.Enter k.seg (Inner.Load (HomeOf k.seg) (λ w. swap
 -- it goes out of frame f to page g
 abbrev pub take_out : Known → ℕ → ℕ → ℕ → Inner Outcome
 take_out k f size g = copy_words (FrameWord f) (PageWord g) 0 k.size (Inner.Store (FrameTenant f) 0
-  (Inner.Store (HomeOf k.seg) (pack_home (H.Stored g size)) (Inner.Shows (Value 0))))
+    (Inner.Store (HomeOf k.seg) (pack_home (H.Stored g size)) (Inner.Shows (Value 0))))
 
 -- a page without a tenant takes it
 abbrev pub take_page : Known → ℕ → ℕ → ℕ → Inner Outcome

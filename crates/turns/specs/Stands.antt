@@ -10,6 +10,8 @@ use Rattle.turns.specs.declared.look.LookPart.{LookPart}
 use Rattle.turns.specs.declared.look.LookPart.TheVariants as L
 use Rattle.turns.specs.declared.turn.TurnPart.{TurnPart}
 use Rattle.turns.specs.declared.turn.TurnPart.TheVariants as T
+use Rattle.turns.specs.declared.nested.NestedPart.{NestedPart}
+use Rattle.turns.specs.declared.nested.NestedPart.TheVariants as N
 
 -- a refusal by a private test: one step, which touches no word
 abbrev pub refusing : {R : Type 0} → R → Act R
@@ -39,3 +41,21 @@ turning u T.Second whole rest shown = InnerSecond None u whole
 turning u (T.Third t) whole rest shown = InnerThird None u t whole
 turning u (T.Held t) whole rest shown = InnerBody None u t rest
 turning u (T.Last t) whole rest shown = InnerBody None u t (Inner.Shows shown)
+
+-- likewise with a segment's turn within its class's, whose ticket is n
+abbrev pub within : {R : Type 0} → (n : ℕ) → SegId → TurnPart → (whole rest : Inner R) → (shown : R) → Doing R
+within n u T.First whole rest shown = OuterBody n (Outer.Enter u whole)
+within n u T.Second whole rest shown = InnerSecond (Some n) u whole
+within n u (T.Third t) whole rest shown = InnerThird (Some n) u t whole
+within n u (T.Held t) whole rest shown = InnerBody (Some n) u t rest
+within n u (T.Last t) whole rest shown = InnerBody (Some n) u t (Inner.Shows shown)
+
+-- likewise with a turn of the class, in whose body there may be one of segment u: the bodies of both, and what is left of them
+abbrev pub nesting : {R : Type 0} → SegId → NestedPart → (whole rest : Outer R) → (inner left : Inner R) → (shown : R) → Doing R
+nesting u (N.Outer T.First) whole rest inner left shown = Fresh
+nesting u (N.Outer T.Second) whole rest inner left shown = OuterSecond whole
+nesting u (N.Outer (T.Third t)) whole rest inner left shown = OuterThird t whole
+nesting u (N.Outer (T.Held t)) whole rest inner left shown = OuterBody t rest
+nesting u (N.Outer (T.Last t)) whole rest inner left shown = OuterBody t (Outer.Shows shown)
+nesting u (N.Inner n p) whole rest inner left shown = within n u p inner left shown
+nesting u (N.Leaving t) whole rest inner left shown = Leaving t

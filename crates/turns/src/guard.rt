@@ -1,7 +1,7 @@
 //! What a look or a turn goes by.
 
 ghost use Rattle.std.specs.Prelude.{◌≡◌, ◌<◌};
-ghost use Rattle.words_layout.specs.Words.{address, Started, Tickets, Finished};
+ghost use Rattle.words_layout.specs.Words.{address, class_of, Started, Tickets, Finished};
 
 use words_layout::{
     Addr, SegId, finished_addr, seg_finished_addr, seg_started_addr, seg_ticket_addr, started_addr,
@@ -22,7 +22,8 @@ impl Guard {
     /// The word of the turns started.
     pub fn started(&self) -> Addr
         requires { IsGuard self.now }
-        ensures { result.0 ≡ address (guard_class self.now) (Started (guard_name self.now)) }
+        ensures address { result.0 ≡ address (guard_class self.now) (Started (guard_name self.now)) }
+        ensures class { class_of result.0 ≡ guard_class self.now }
     {
         match *self {
             Guard::Class(class) => started_addr(class),
@@ -33,7 +34,8 @@ impl Guard {
     /// The word of the turn tickets.
     pub fn ticket(&self) -> Addr
         requires { IsGuard self.now }
-        ensures { result.0 ≡ address (guard_class self.now) (Tickets (guard_name self.now)) }
+        ensures address { result.0 ≡ address (guard_class self.now) (Tickets (guard_name self.now)) }
+        ensures class { class_of result.0 ≡ guard_class self.now }
     {
         match *self {
             Guard::Class(class) => ticket_addr(class),
@@ -44,7 +46,8 @@ impl Guard {
     /// The word of the turns finished.
     pub fn finished(&self) -> Addr
         requires { IsGuard self.now }
-        ensures { result.0 ≡ address (guard_class self.now) (Finished (guard_name self.now)) }
+        ensures address { result.0 ≡ address (guard_class self.now) (Finished (guard_name self.now)) }
+        ensures class { class_of result.0 ≡ guard_class self.now }
     {
         match *self {
             Guard::Class(class) => finished_addr(class),

@@ -43,7 +43,8 @@ pub struct Look {
 impl Look {
     ghost use Rattle.std.specs.Prelude.{◌≡◌, true, false};
     ghost use Rattle.turns.specs.Parts.{guard_class, look_first, look_asks, look_goes, look_tells, look_checked, look_in_body, LookRow};
-    ghost use Rattle.turns.specs.OpAt.{op_at};
+    ghost use Rattle.words_layout.specs.Named.{op_at};
+    ghost use Rattle.turns.specs.Classes.{LoadsOnly};
 
     /// A look at the guard that is at its first part.
     pub fn new(guard: Guard) -> Look
@@ -70,7 +71,8 @@ impl Look {
     /// The operation of the part.
     pub fn next_op(&self) -> Op
         requires { look_in_body self.now.part ≡ false }
-        ensures { result ≡ op_at (guard_class self.now.guard) (look_asks self.now.guard self.now.part) }
+        ensures op { result ≡ op_at (guard_class self.now.guard) (look_asks self.now.guard self.now.part) }
+        ensures class { LoadsOnly (guard_class self.now.guard) result }
     {
         match self.part {
             LookPart::First => Op::Load(self.guard.started()),

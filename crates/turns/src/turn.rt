@@ -44,7 +44,8 @@ pub struct Turn {
 impl Turn {
     ghost use Rattle.std.specs.Prelude.{◌≡◌, true, false};
     ghost use Rattle.turns.specs.Parts.{guard_class, turn_first, turn_asks, turn_goes, turn_tells, turn_closed, turn_is_held, TurnRow};
-    ghost use Rattle.turns.specs.OpAt.{op_at};
+    ghost use Rattle.words_layout.specs.Named.{op_at};
+    ghost use Rattle.turns.specs.Classes.{NamesOnly};
 
     /// A turn of the guard that is at its first part.
     pub fn new(guard: Guard) -> Turn
@@ -56,6 +57,22 @@ impl Turn {
             guard,
             part: TurnPart::First,
         }
+    }
+
+    /// A turn of the guard at this part.
+    pub fn at(guard: Guard, part: TurnPart) -> Turn
+        requires { IsGuard guard }
+        ensures guard { result.guard ≡ guard }
+        ensures part { result.part ≡ part }
+    {
+        Turn { guard, part }
+    }
+
+    /// How far the turn is.
+    pub fn part(&self) -> TurnPart
+        ensures { result ≡ self.now.part }
+    {
+        self.part
     }
 
     /// Whether the operations are the caller's.
@@ -71,7 +88,8 @@ impl Turn {
     /// The operation of the part.
     pub fn next_op(&self) -> Op
         requires { turn_is_held self.now.part ≡ false }
-        ensures { result ≡ op_at (guard_class self.now.guard) (turn_asks self.now.guard self.now.part) }
+        ensures op { result ≡ op_at (guard_class self.now.guard) (turn_asks self.now.guard self.now.part) }
+        ensures class { NamesOnly (guard_class self.now.guard) result }
     {
         match self.part {
             TurnPart::First => Op::Add(self.guard.started(), 1),

@@ -1,0 +1,187 @@
+//! Update: the segment's turn, whose body loads the home, stores the words and counts the write.
+
+ghost use Rattle.std.specs.Prelude.{◌≡◌, ◌<◌, ◌≤◌, ◌+◌};
+ghost use Rattle.words_layout.specs.Limits.{IsIdentity};
+ghost use Rattle.turns.specs.Parts.{turn_is_held};
+ghost use Rattle.turns.specs.declared.guard.Guard.{Guard};
+ghost use Rattle.data_gates.specs.UpdateRest.{holds};
+ghost use Rattle.data_gates.specs.declared.update.Rest.{Rest};
+
+use gate_parts::{home_taken, refused, value};
+use policy::{Outcome, Reply, Rule};
+use turns::{Turn, TurnStep};
+use words_layout::{Home, Op, SegId, frame_word_addr, home_addr, writes_addr};
+
+/// What the body does next.
+#[derive(Clone, Copy, Debug, PartialEq, Eq)]
+enum Rest {
+    /// To load the home.
+    Home,
+    /// To store the next word into the frame.
+    Words,
+    /// To count the write.
+    Count,
+    /// The body isn't begun, or it has ended: with a refusal, or with all words stored and the write counted.
+    Shown(Option<Rule>),
+}
+
+/// Update: so many words of the pad into a segment.
+#[derive(Drop)]
+pub struct Update {
+    class: u8,
+    seg: SegId,
+    offset: u8,
+    count: u8,
+    pad: u8,
+    words: [u64; 64],
+    /// The first broken private test.
+    refusal: Option<Rule>,
+    turn: Turn,
+    rest: Rest,
+    /// The frame of the words, once its home was loaded.
+    frame: u8,
+    /// How many words are stored.
+    stored: u8,
+    /// The count of writes, once it was raised.
+    writes: u64,
+    ghost guard_is: { turn.guard ≡ Guard.Segment class seg },
+    ghost in_limits: { (class < 16) × IsIdentity seg × (offset + count ≤ 64) × (pad + count ≤ 64) × (frame < 16) × (1 ≤ count) },
+    ghost held: { turn_is_held turn.part ≡ holds rest },
+    ghost left: { rest ≡ Rest.Words → stored < count },
+}
+
+impl Update {
+    ghost use Rattle.std.specs.Prelude.{ℕ, false, Some, None};
+    ghost use Rattle.words_layout.specs.Named.{op_at};
+    ghost use Rattle.policy.specs.Outcome.{Outcome};
+    ghost use Rattle.turns.specs.Classes.{NamesOnly};
+    ghost use Rattle.turns.specs.Doing.{Told, going};
+    ghost use Rattle.turns.specs.Stands.{step_op, step_told};
+    ghost use Rattle.gate_parts.specs.Replies.{answers, reply_of};
+    ghost use Rattle.data_gates.specs.Updating.{act_of, doing_of, update_shows};
+
+    /// The operation of the next step.
+    #[tactic(auto, using(crate::proofs::Updated::word_asked, turns::proofs::Turning::held_asks, turns::proofs::Turning::turning_asks))]
+    pub fn next_op(&self) -> Op
+        ensures op { result ≡ op_at self.now.class (step_op self.now.class (act_of self.now) (doing_of self.now)) }
+        ensures class { NamesOnly self.now.class result }
+    {
+        if self.refusal.is_some() {
+            return Op::Nothing;
+        }
+        match self.rest {
+            Rest::Home => Op::Load(home_addr(self.class, self.seg)),
+            Rest::Words => Op::Store(
+                frame_word_addr(self.class, self.frame, self.offset + self.stored),
+                self.words[(self.pad + self.stored) as usize],
+            ),
+            Rest::Count => Op::Add(writes_addr(self.class, self.seg), 1),
+            Rest::Shown(_) => self.turn.next_op(),
+        }
+    }
+
+    /// Takes the answer to the operation of the step.
+    pub fn absorb(&mut self, answer: u64) -> Outcome
+        ensures outcome { result ≡ answers (step_told (act_of self.old) (doing_of self.old) answer) None }
+        ensures doing { doing_of self.new ≡ (step_told (act_of self.old) (doing_of self.old) answer).doing }
+        ensures act { act_of self.new ≡ act_of self.old }
+        ensures class { self.new.class ≡ self.old.class }
+    {
+        if let Some(rule) = self.refusal {
+            return Outcome::Done(refused(rule));
+        }
+        match self.rest {
+            Rest::Home => self.take_home(answer),
+            Rest::Words => self.word_stored(answer),
+            Rest::Count => self.take_count(answer),
+            Rest::Shown(_) => return self.take_turn(answer),
+        }
+        Outcome::Going
+    }
+
+    /// The home was loaded.
+    #[tactic(auto, using(turns::proofs::Turning::load_told, turns::proofs::Turning::turning_closed))]
+    fn take_home(&mut self, answer: u64)
+        requires begun { self.old.refusal ≡ None }
+        requires home { self.old.rest ≡ Rest.Home }
+        ensures told { step_told (act_of self.old) (doing_of self.old) answer ≡ going (doing_of self.new) }
+        ensures act { act_of self.new ≡ act_of self.old }
+        ensures class { self.new.class ≡ self.old.class }
+    {
+        match home_taken(answer) {
+            Home::Resident { frame, .. } => {
+                self.frame = frame;
+                self.stored = 0;
+                self.rest = Rest::Words;
+            }
+            Home::Deleted => {
+                self.turn.finish();
+                self.rest = Rest::Shown(Some(Rule::Gone));
+            }
+            _ => {
+                self.turn.finish();
+                self.rest = Rest::Shown(Some(Rule::NotIn));
+            }
+        }
+    }
+
+    /// A word was stored.
+    #[tactic(auto, using(crate::proofs::Updated::word_told))]
+    fn word_stored(&mut self, answer: u64)
+        requires begun { self.old.refusal ≡ None }
+        requires words { self.old.rest ≡ Rest.Words }
+        ensures told { step_told (act_of self.old) (doing_of self.old) answer ≡ going (doing_of self.new) }
+        ensures act { act_of self.new ≡ act_of self.old }
+        ensures class { self.new.class ≡ self.old.class }
+    {
+        self.stored += 1;
+        if self.stored == self.count {
+            self.rest = Rest::Count;
+        }
+    }
+
+    /// The write was counted.
+    #[tactic(auto, using(turns::proofs::Turning::add_told, turns::proofs::Turning::turning_closed))]
+    fn take_count(&mut self, answer: u64)
+        requires begun { self.old.refusal ≡ None }
+        requires count { self.old.rest ≡ Rest.Count }
+        ensures told { step_told (act_of self.old) (doing_of self.old) answer ≡ going (doing_of self.new) }
+        ensures act { act_of self.new ≡ act_of self.old }
+        ensures class { self.new.class ≡ self.old.class }
+    {
+        self.writes = answer.wrapping_add(1);
+        self.turn.finish();
+        self.rest = Rest::Shown(None);
+    }
+
+    /// The turn takes a step outside its body.
+    #[tactic(auto, using(turns::proofs::Turning::turning_told))]
+    fn take_turn(&mut self, answer: u64) -> Outcome
+        requires begun { self.old.refusal ≡ None }
+        requires outside { holds self.old.rest ≡ false }
+        ensures outcome { result ≡ answers (step_told (act_of self.old) (doing_of self.old) answer) None }
+        ensures doing { doing_of self.new ≡ (step_told (act_of self.old) (doing_of self.old) answer).doing }
+        ensures act { act_of self.new ≡ act_of self.old }
+        ensures class { self.new.class ≡ self.old.class }
+    {
+        match self.turn.absorb(answer) {
+            TurnStep::Going => Outcome::Going,
+            TurnStep::Held => {
+                self.rest = Rest::Home;
+                Outcome::Going
+            }
+            TurnStep::Poll => Outcome::Poll,
+            TurnStep::Finished => Outcome::Done(self.reply()),
+        }
+    }
+
+    /// The reply of the body.
+    fn reply(&self) -> Reply
+        ensures { result ≡ reply_of (update_shows self.now.writes self.now.rest) }
+    {
+        match self.rest {
+            Rest::Shown(Some(rule)) => refused(rule),
+            _ => value(self.writes),
+        }
+    }
+}

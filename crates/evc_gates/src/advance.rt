@@ -1,0 +1,52 @@
+//! Advance: 1 is added to the component of the caller's class.
+
+ghost use Rattle.std.specs.Prelude.{◌<◌};
+ghost use Rattle.words_layout.specs.Limits.{IsIdentity};
+
+use gate_parts::{refused, value};
+use policy::{Known, Outcome, Rule};
+use words_layout::{Op, component_addr};
+
+/// Advance an eventcount by one.
+#[derive(Drop)]
+pub struct Advance {
+    class: u8,
+    known: Known,
+    /// The first broken private test.
+    refusal: Option<Rule>,
+    ghost in_limits: { (class < 16) × (known.class < 16) × IsIdentity known.seg },
+}
+
+impl Advance {
+    ghost use Rattle.std.specs.Prelude.{◌≡◌, None};
+    ghost use Rattle.words_layout.specs.Named.{op_at};
+    ghost use Rattle.turns.specs.Classes.{NamesOnly};
+    ghost use Rattle.turns.specs.Doing.{act_op, act_told};
+    ghost use Rattle.gate_parts.specs.Replies.{answers};
+    ghost use Rattle.evc_gates.specs.Counting.{advance_act};
+
+    /// The operation of the next step.
+    pub fn next_op(&self) -> Op
+        ensures op { result ≡ op_at self.now.class (act_op (advance_act self.now.refusal self.now.known)) }
+        ensures class { NamesOnly self.now.class result }
+    {
+        if self.refusal.is_some() {
+            return Op::Nothing;
+        }
+        Op::Add(
+            component_addr(self.class, self.known.class, self.known.seg),
+            1,
+        )
+    }
+
+    /// Takes the answer to the operation of the step.
+    pub fn absorb(&mut self, answer: u64) -> Outcome
+        ensures outcome { result ≡ answers (act_told (advance_act self.old.refusal self.old.known) answer) None }
+        ensures same { self.new ≡ self.old }
+    {
+        match self.refusal {
+            Some(rule) => Outcome::Done(refused(rule)),
+            None => Outcome::Done(value(answer.wrapping_add(1))),
+        }
+    }
+}
