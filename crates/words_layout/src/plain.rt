@@ -30,7 +30,8 @@ impl PlainWords {
     /// The words of so many classes, all 0.
     pub fn new(alloc: Global, classes: u8) -> Result<PlainWords, AllocError>
         requires { (1 ≤ classes) × (classes ≤ 16) }
-        ensures { IfOk result (λ w. w ≡ replicate (34869 * classes) 0) }
+        ensures words { IfOk result (λ w. w ≡ replicate (34869 * classes) 0) }
+        ensures layout { IfOk result (λ w. length w / 34869 ≡ classes) }
     {
         let words = vec![in alloc; 0u64; CLASS_WORDS as usize * classes as usize]?;
         Ok(PlainWords { classes, words })
@@ -53,7 +54,8 @@ impl PlainWords {
 
     /// The number of classes of the layout, from 1 to 16.
     pub fn classes(&self) -> u8
-        ensures layout { length self.now ≡ 34869 * result }
+        ensures layout { result ≡ length self.now / 34869 }
+        ensures length { length self.now ≡ 34869 * result }
         ensures range { (1 ≤ result) × (result ≤ 16) }
     {
         self.classes

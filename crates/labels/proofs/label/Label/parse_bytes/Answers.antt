@@ -1,0 +1,5 @@
+use Rattle.labels.proofs.Answer.{read_only}
+use Rattle.labels.proofs.label.Label.parse_bytes.Goals as goal
+
+pub returns-clause-only : goal.returns-clause-only
+returns-clause-only c = λ r a. read_only c.args.text.now c.read.result r c.read.ensures a
