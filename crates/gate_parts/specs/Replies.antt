@@ -5,9 +5,9 @@ use Rattle.policy.specs.Verdict.{number, first_broken}
 use Rattle.policy.specs.Outcome.{Outcome, Refused, Value, Learns, Words, Printed, Looked, Counted}
 use Rattle.policy.specs.declared.rule.Rule.{Rule}
 use Rattle.policy.specs.declared.rule.Rule.TheVariants.{UnknownSegno}
-use Rattle.policy.specs.declared.reply.Reply.{Reply}
-use Rattle.policy.specs.declared.reply.Outcome.{Outcome as Answer}
-use Rattle.policy.specs.declared.reply.Outcome.TheVariants as A
+use Rattle.policy.specs.declared.answers.Reply.{Reply}
+use Rattle.policy.specs.declared.answers.Outcome.{Outcome as Answer}
+use Rattle.policy.specs.declared.answers.Outcome.TheVariants as A
 use Rattle.turns.specs.Doing.{Told, Ending, Goes, Polls, Ends, Act}
 use Rattle.turns.specs.Stands.{refusing}
 

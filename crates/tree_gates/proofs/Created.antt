@@ -1,5 +1,5 @@
 -- What the turn of create is, and its entry.
-use Rattle.std.proofs.Common.{ℕ, ◌<◌, ◌≤◌, ◌≡◌, true, false, Bool, ◌&&◌, refl, ⊥, arith}
+use Rattle.std.proofs.Common.{ℕ, ◌<◌, ◌≤◌, ◌≡◌, true, false, Bool, ◌&&◌, refl, arith}
 use Rattle.std.specs.Prelude.{◌||◌, nat_le, nat_lt}
 use Rattle.std.proofs.lemmas.Bool.{lt-ltb, le-leb}
 use Rattle.words_layout.specs.Coding.{alias_in_range}
