@@ -7,9 +7,9 @@ ghost use Rattle.data_gates.specs.declared.fetch.Rest.{Rest};
 ghost use Rattle.data_gates.specs.FetchRest.{loads};
 
 use arrayvec::ArrayVec;
-use gate_parts::{home_taken, refused, value};
-use policy::{Outcome, Reply, Rule};
-use turns::{Look, LookStep};
+use gate_parts::home_taken;
+use policy::{Caller, Known, Outcome, Reply, Rule, fetch_refusal, usable};
+use turns::{Guard, Look, LookStep};
 use words_layout::{Home, Op, SegId, frame_word_addr, home_addr};
 
 /// What the body does next.
@@ -46,13 +46,71 @@ pub struct Fetch {
 
 impl Fetch {
     ghost use Rattle.std.specs.Prelude.{ℕ, List, false, Some, None};
-    ghost use Rattle.turns.specs.Doing.{Told, going};
+    ghost use Rattle.turns.specs.Doing.{Told, going, Fresh, Look as LookAct};
     ghost use Rattle.turns.specs.Stands.{step_op, step_told};
     ghost use Rattle.words_layout.specs.Named.{op_at};
     ghost use Rattle.turns.specs.Classes.{LoadsOnly};
     ghost use Rattle.policy.specs.Outcome.{Words};
-    ghost use Rattle.gate_parts.specs.Replies.{answers, reply_of};
+    ghost use Rattle.std.specs.Option.{option_map};
+    ghost use Rattle.policy.specs.Known.{usable};
+    ghost use Rattle.policy.specs.Private.{fetch_tests};
+    ghost use Rattle.data_gates.specs.Data.{fetch_body};
+    ghost use Rattle.words_layout.specs.Words.{OfSegment};
+    ghost use Rattle.turns.specs.Stands.{refusing};
+    ghost use Rattle.policy.specs.Outcome.{Refused};
+    ghost use Rattle.gate_parts.specs.Replies.{begins, KnownTo, answers, reply_of};
     ghost use Rattle.data_gates.specs.Fetching.{act_of, doing_of, fetch_shows};
+
+    /// Makes the private tests. An empty place, or one that may be signalled alone, gives UnknownSegno.
+    #[tactic(auto, using(crate::proofs::Bounds::fetch_bounds, crate::proofs::Bounds::update_bounds))]
+    pub fn start(who: &Caller, known: Option<&Known>, offset: u64, count: u64, pad: u64) -> Fetch
+        requires class { who.now.class < 16 }
+        requires known { KnownTo who.now.class (option_map (λ k. k.now) known) }
+        ensures act { act_of result ≡ begins (usable (option_map (λ k. k.now) known.entry)) (fetch_tests who.now.ring offset count pad) (λ k. LookAct k.class (OfSegment k.seg) (fetch_body k.seg offset count pad)) }
+        ensures fresh { doing_of result ≡ Fresh }
+    {
+        let Some(known) = usable(known) else {
+            return Fetch::refused(who.class, Rule::UnknownSegno);
+        };
+        if let Some(rule) = fetch_refusal(who.ring, known, offset, count, pad) {
+            return Fetch::refused(who.class, rule);
+        }
+        Fetch {
+            class: known.class,
+            seg: known.seg,
+            offset: offset as u8,
+            count: count as u8,
+            pad: pad as u8,
+            refusal: None,
+            look: Look::new(Guard::Segment(known.class, known.seg)),
+            rest: Rest::Shown(None),
+            frame: 0,
+            words: ArrayVec::new(),
+        }
+    }
+
+    /// The gate that a private test refuses.
+    fn refused(class: u8, rule: Rule) -> Fetch
+        requires { class < 16 }
+        ensures act { act_of result ≡ refusing (Refused rule) }
+        ensures fresh { doing_of result ≡ Fresh }
+    {
+        Fetch {
+            class,
+            seg: SegId {
+                mentor: 0,
+                serial: 0,
+            },
+            offset: 0,
+            count: 1,
+            pad: 0,
+            refusal: Some(rule),
+            look: Look::new(Guard::Class(class)),
+            rest: Rest::Shown(None),
+            frame: 0,
+            words: ArrayVec::new(),
+        }
+    }
 
     /// The operation of the next step.
     #[tactic(auto, using(crate::proofs::Fetched::word_asked))]
@@ -82,7 +140,7 @@ impl Fetch {
         ensures words { (pad : ℕ) (words : List ℕ) → (step_told (act_of self.old) (doing_of self.old) answer).takes ≡ Some (Words pad words) → self.new.words.items ≡ words }
     {
         if let Some(rule) = self.refusal {
-            return Outcome::Done(refused(rule));
+            return Outcome::Done(Reply::refused(rule));
         }
         match self.rest {
             Rest::Home => self.take_home(answer),
@@ -158,8 +216,15 @@ impl Fetch {
         ensures { result ≡ reply_of (fetch_shows self.now.pad self.now.words.items self.now.rest) }
     {
         match self.rest {
-            Rest::Shown(Some(rule)) => refused(rule),
-            _ => value(self.words.len() as u64),
+            Rest::Shown(Some(rule)) => Reply::refused(rule),
+            _ => Reply::ok(self.words.len() as u64),
         }
+    }
+
+    /// The words that the accepted body loaded.
+    pub fn words(&self) -> &ArrayVec<u64, 64>
+        ensures { result.now ≡ self.now.words }
+    {
+        &self.words
     }
 }

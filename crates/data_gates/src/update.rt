@@ -7,9 +7,9 @@ ghost use Rattle.turns.specs.declared.guard.Guard.{Guard};
 ghost use Rattle.data_gates.specs.UpdateRest.{holds};
 ghost use Rattle.data_gates.specs.declared.update.Rest.{Rest};
 
-use gate_parts::{home_taken, refused, value};
-use policy::{Outcome, Reply, Rule};
-use turns::{Turn, TurnStep};
+use gate_parts::home_taken;
+use policy::{Caller, Known, Outcome, Reply, Rule, update_refusal, usable};
+use turns::{Guard, Turn, TurnStep};
 use words_layout::{Home, Op, SegId, frame_word_addr, home_addr, writes_addr};
 
 /// What the body does next.
@@ -55,10 +55,87 @@ impl Update {
     ghost use Rattle.words_layout.specs.Named.{op_at};
     ghost use Rattle.policy.specs.Outcome.{Outcome};
     ghost use Rattle.turns.specs.Classes.{NamesOnly};
-    ghost use Rattle.turns.specs.Doing.{Told, going};
+    ghost use Rattle.turns.specs.Doing.{Told, going, Fresh, SegmentTurn};
     ghost use Rattle.turns.specs.Stands.{step_op, step_told};
-    ghost use Rattle.gate_parts.specs.Replies.{answers, reply_of};
+    ghost use Rattle.std.specs.Option.{option_map};
+    ghost use Rattle.lists.specs.Lists.{part_of};
+    ghost use Rattle.policy.specs.Known.{usable};
+    ghost use Rattle.policy.specs.Private.{update_tests};
+    ghost use Rattle.data_gates.specs.Data.{update_body};
+    ghost use Rattle.turns.specs.Stands.{refusing};
+    ghost use Rattle.policy.specs.Outcome.{Refused};
+    ghost use Rattle.gate_parts.specs.Replies.{begins, KnownTo, answers, reply_of};
     ghost use Rattle.data_gates.specs.Updating.{act_of, doing_of, update_shows};
+
+    /// Makes the private tests. An empty place, or one that may be signalled alone, gives UnknownSegno.
+    #[tactic(auto, using(crate::proofs::Bounds::fetch_bounds, crate::proofs::Bounds::update_bounds))]
+    pub fn start(
+        who: &Caller,
+        known: Option<&Known>,
+        offset: u64,
+        count: u64,
+        pad: u64,
+        words: &[u64; 64],
+    ) -> Update
+        requires class { who.now.class < 16 }
+        requires known { KnownTo who.now.class (option_map (λ k. k.now) known) }
+        ensures act { act_of result ≡ begins (usable (option_map (λ k. k.now) known.entry)) (update_tests who.now.ring offset count pad) (λ k. SegmentTurn k.seg (update_body k.seg offset (part_of words.now pad count))) }
+        ensures fresh { doing_of result ≡ Fresh }
+        ensures class { result.class ≡ who.now.class }
+    {
+        let Some(known) = usable(known) else {
+            return Update::refused(who.class, Rule::UnknownSegno, words);
+        };
+        if let Some(rule) = update_refusal(who.ring, known, offset, count, pad) {
+            return Update::refused(who.class, rule, words);
+        }
+        Update {
+            class: who.class,
+            seg: known.seg,
+            offset: offset as u8,
+            count: count as u8,
+            pad: pad as u8,
+            words: *words,
+            refusal: None,
+            turn: Turn::new(Guard::Segment(who.class, known.seg)),
+            rest: Rest::Shown(None),
+            frame: 0,
+            stored: 0,
+            writes: 0,
+        }
+    }
+
+    /// The gate that a private test refuses.
+    fn refused(class: u8, rule: Rule, words: &[u64; 64]) -> Update
+        requires { class < 16 }
+        ensures act { act_of result ≡ refusing (Refused rule) }
+        ensures fresh { doing_of result ≡ Fresh }
+        ensures class { result.class ≡ class }
+    {
+        Update {
+            class,
+            seg: SegId {
+                mentor: 0,
+                serial: 0,
+            },
+            offset: 0,
+            count: 1,
+            pad: 0,
+            words: *words,
+            refusal: Some(rule),
+            turn: Turn::new(Guard::Segment(
+                class,
+                SegId {
+                    mentor: 0,
+                    serial: 0,
+                },
+            )),
+            rest: Rest::Shown(None),
+            frame: 0,
+            stored: 0,
+            writes: 0,
+        }
+    }
 
     /// The operation of the next step.
     #[tactic(auto, using(crate::proofs::Updated::word_asked, turns::proofs::Turning::held_asks, turns::proofs::Turning::turning_asks))]
@@ -88,7 +165,7 @@ impl Update {
         ensures class { self.new.class ≡ self.old.class }
     {
         if let Some(rule) = self.refusal {
-            return Outcome::Done(refused(rule));
+            return Outcome::Done(Reply::refused(rule));
         }
         match self.rest {
             Rest::Home => self.take_home(answer),
@@ -180,8 +257,8 @@ impl Update {
         ensures { result ≡ reply_of (update_shows self.now.writes self.now.rest) }
     {
         match self.rest {
-            Rest::Shown(Some(rule)) => refused(rule),
-            _ => value(self.writes),
+            Rest::Shown(Some(rule)) => Reply::refused(rule),
+            _ => Reply::ok(self.writes),
         }
     }
 }

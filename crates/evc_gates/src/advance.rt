@@ -3,8 +3,8 @@
 ghost use Rattle.std.specs.Prelude.{◌<◌};
 ghost use Rattle.words_layout.specs.Limits.{IsIdentity};
 
-use gate_parts::{refused, value};
-use policy::{Known, Outcome, Rule};
+use gate_parts::no_segment;
+use policy::{Caller, Known, Outcome, Reply, Rule, advance_refusal};
 use words_layout::{Op, component_addr};
 
 /// Advance an eventcount by one.
@@ -22,8 +22,31 @@ impl Advance {
     ghost use Rattle.words_layout.specs.Named.{op_at};
     ghost use Rattle.turns.specs.Classes.{NamesOnly};
     ghost use Rattle.turns.specs.Doing.{act_op, act_told};
-    ghost use Rattle.gate_parts.specs.Replies.{answers};
+    ghost use Rattle.std.specs.Option.{option_map};
+    ghost use Rattle.policy.specs.Private.{advance_tests};
+    ghost use Rattle.gate_parts.specs.Replies.{answers, begins, KnownTo};
     ghost use Rattle.evc_gates.specs.Counting.{advance_act};
+
+    /// Makes the private tests. An empty place gives UnknownSegno, and a place that may be signalled alone is no empty one.
+    pub fn start(who: &Caller, known: Option<&Known>) -> Advance
+        requires class { who.now.class < 16 }
+        requires known { KnownTo who.now.class (option_map (λ k. k.now) known) }
+        ensures act { advance_act result.refusal result.known ≡ begins (option_map (λ k. k.now) known.entry) (advance_tests who.now.ring) (advance_act None) }
+        ensures class { result.class ≡ who.now.class }
+    {
+        match known {
+            None => Advance {
+                class: who.class,
+                known: no_segment(),
+                refusal: Some(Rule::UnknownSegno),
+            },
+            Some(known) => Advance {
+                class: who.class,
+                known: *known,
+                refusal: advance_refusal(who.ring, known),
+            },
+        }
+    }
 
     /// The operation of the next step.
     pub fn next_op(&self) -> Op
@@ -45,8 +68,8 @@ impl Advance {
         ensures same { self.new ≡ self.old }
     {
         match self.refusal {
-            Some(rule) => Outcome::Done(refused(rule)),
-            None => Outcome::Done(value(answer.wrapping_add(1))),
+            Some(rule) => Outcome::Done(Reply::refused(rule)),
+            None => Outcome::Done(Reply::ok(answer.wrapping_add(1))),
         }
     }
 }

@@ -2,8 +2,7 @@
 
 ghost use Rattle.std.specs.Prelude.{◌<◌};
 
-use gate_parts::{refused, value};
-use policy::{Outcome, Rule};
+use policy::{Caller, Outcome, Reply, Rule};
 use words_layout::{Op, console_addr};
 
 /// Take a console place.
@@ -23,6 +22,18 @@ impl Out {
     ghost use Rattle.gate_parts.specs.Replies.{answers};
     ghost use Rattle.evc_gates.specs.Counting.{out_act};
 
+    /// Takes the next place of a console of this size.
+    pub fn start(who: &Caller, size: u32) -> Out
+        requires { who.now.class < 16 }
+        ensures class { result.class ≡ who.now.class }
+        ensures size { result.size ≡ size }
+    {
+        Out {
+            class: who.class,
+            size,
+        }
+    }
+
     /// The operation of the next step.
     pub fn next_op(&self) -> Op
         ensures op { (value : ℕ) → result ≡ op_at self.now.class (act_op (out_act self.now.size value)) }
@@ -37,9 +48,9 @@ impl Out {
         ensures same { self.new ≡ self.old }
     {
         if answer < self.size as u64 {
-            Outcome::Done(value(answer))
+            Outcome::Done(Reply::ok(answer))
         } else {
-            Outcome::Done(refused(Rule::ConsoleFull))
+            Outcome::Done(Reply::refused(Rule::ConsoleFull))
         }
     }
 }

@@ -5,13 +5,13 @@ ghost use Rattle.words_layout.specs.Limits.{IsIdentity};
 
 use crate::classes::classes_of_bits;
 use arrayvec::ArrayVec;
-use gate_parts::{refused, value};
-use policy::{Known, Outcome, Rule};
+use gate_parts::no_segment;
+use policy::{Caller, Known, Outcome, Reply, Rule, read_refusal, usable};
 use words_layout::{Op, component_addr};
 
 /// The looks at the components of an eventcount, up to a sum that is enough.
 #[derive(Drop)]
-struct Sum {
+pub struct Sum {
     known: Known,
     /// The classes that have a component, in order.
     classes: ArrayVec<u8, 16>,
@@ -31,8 +31,40 @@ impl Sum {
     ghost use Rattle.std.specs.Prelude.{ℕ};
     ghost use Rattle.words_layout.specs.Named.{op_at};
     ghost use Rattle.turns.specs.Doing.{act_op, act_told};
-    ghost use Rattle.gate_parts.specs.Replies.{answers};
-    ghost use Rattle.evc_gates.specs.Counting.{sum_act, tally, tally_after};
+    ghost use Rattle.std.specs.Prelude.{IsSome};
+    ghost use Rattle.std.specs.Option.{option_map};
+    ghost use Rattle.policy.specs.Private.{read_tests};
+    ghost use Rattle.policy.specs.Known.{usable};
+    ghost use Rattle.gate_parts.specs.Replies.{answers, begins, KnownTo};
+    ghost use Rattle.evc_gates.specs.Counting.{classes_of, sum_act, tally, tally_after};
+
+    /// Makes the private tests. An empty place, or one that may be signalled alone, gives UnknownSegno.
+    fn start(who: &Caller, known: Option<&Known>, below: u16, wanted: u64) -> Sum
+        requires known { KnownTo who.now.class (option_map (λ k. k.now) known) }
+        requires below { IsSome known → 0 < length (classes_of below) }
+        ensures act { sum_act result.refusal result.classes.items result.known result.wanted (tally result.seen result.sum) ≡ begins (usable (option_map (λ k. k.now) known.entry)) (read_tests who.now.ring) (λ k. sum_act None (classes_of below) k wanted (tally 0 0)) }
+        ensures classes { result.classes.items ≡ classes_of below }
+        ensures wanted { result.wanted ≡ wanted }
+    {
+        match usable(known) {
+            None => Sum {
+                known: no_segment(),
+                classes: classes_of_bits(below),
+                wanted,
+                refusal: Some(Rule::UnknownSegno),
+                seen: 0,
+                sum: 0,
+            },
+            Some(known) => Sum {
+                known: *known,
+                classes: classes_of_bits(below),
+                wanted,
+                refusal: read_refusal(who.ring, known),
+                seen: 0,
+                sum: 0,
+            },
+        }
+    }
 
     /// The operation of the next step.
     fn next_op(&self) -> Op
@@ -55,7 +87,7 @@ impl Sum {
         ensures refusal { self.new.refusal ≡ self.old.refusal }
     {
         if let Some(rule) = self.refusal {
-            return Outcome::Done(refused(rule));
+            return Outcome::Done(Reply::refused(rule));
         }
         let sum = self.sum.wrapping_add(answer);
         if (self.seen as usize) + 1 < self.classes.len() {
@@ -68,7 +100,95 @@ impl Sum {
         if sum < self.wanted {
             Outcome::Poll
         } else {
-            Outcome::Done(value(sum))
+            Outcome::Done(Reply::ok(sum))
         }
+    }
+}
+
+/// Read: the sum of the components of an eventcount.
+#[derive(Drop)]
+pub struct EvcRead {
+    looks: Sum,
+}
+
+impl EvcRead {
+    ghost use Rattle.std.specs.Prelude.{IsSome};
+    ghost use Rattle.std.specs.Option.{option_map};
+    ghost use Rattle.words_layout.specs.Named.{op_at};
+    ghost use Rattle.policy.specs.Known.{usable};
+    ghost use Rattle.policy.specs.Private.{read_tests};
+    ghost use Rattle.turns.specs.Doing.{act_op, act_told};
+    ghost use Rattle.gate_parts.specs.Replies.{answers, begins, KnownTo};
+    ghost use Rattle.evc_gates.specs.Counting.{classes_of, sum_act, tally};
+    ghost use Rattle.evc_gates.specs.Summing.{next_look, look_behind};
+
+    /// Makes the private tests. `below` has the bits of the classes at or below the segment's.
+    pub fn start(who: &Caller, known: Option<&Known>, below: u16) -> EvcRead
+        requires known { KnownTo who.now.class (option_map (λ k. k.now) known) }
+        requires below { IsSome known → 0 < length (classes_of below) }
+        ensures { next_look result.looks ≡ begins (usable (option_map (λ k. k.now) known.entry)) (read_tests who.now.ring) (λ k. sum_act None (classes_of below) k 0 (tally 0 0)) }
+    {
+        EvcRead {
+            looks: Sum::start(who, known, below, 0),
+        }
+    }
+
+    /// The operation of the next step.
+    pub fn next_op(&self) -> Op
+        ensures { (d : ℕ) → result ≡ op_at d (act_op (next_look self.now.looks)) }
+    {
+        self.looks.next_op()
+    }
+
+    /// Takes the answer to the operation of the step.
+    pub fn absorb(&mut self, answer: u64) -> Outcome
+        ensures outcome { result ≡ answers (act_told (next_look self.old.looks) answer) None }
+        ensures next { next_look self.new.looks ≡ look_behind self.old.looks (act_told (next_look self.old.looks) answer) }
+    {
+        self.looks.absorb(answer)
+    }
+}
+
+/// Await: the same, until the sum is at least a value.
+#[derive(Drop)]
+pub struct Await {
+    looks: Sum,
+}
+
+impl Await {
+    ghost use Rattle.std.specs.Prelude.{IsSome};
+    ghost use Rattle.std.specs.Option.{option_map};
+    ghost use Rattle.words_layout.specs.Named.{op_at};
+    ghost use Rattle.policy.specs.Known.{usable};
+    ghost use Rattle.policy.specs.Private.{read_tests};
+    ghost use Rattle.turns.specs.Doing.{act_op, act_told};
+    ghost use Rattle.gate_parts.specs.Replies.{answers, begins, KnownTo};
+    ghost use Rattle.evc_gates.specs.Counting.{classes_of, sum_act, tally};
+    ghost use Rattle.evc_gates.specs.Summing.{next_look, look_behind};
+
+    /// Makes the private tests. `below` has the bits of the classes at or below the segment's.
+    pub fn start(who: &Caller, known: Option<&Known>, below: u16, value: u64) -> Await
+        requires known { KnownTo who.now.class (option_map (λ k. k.now) known) }
+        requires below { IsSome known → 0 < length (classes_of below) }
+        ensures { next_look result.looks ≡ begins (usable (option_map (λ k. k.now) known.entry)) (read_tests who.now.ring) (λ k. sum_act None (classes_of below) k value (tally 0 0)) }
+    {
+        Await {
+            looks: Sum::start(who, known, below, value),
+        }
+    }
+
+    /// The operation of the next step.
+    pub fn next_op(&self) -> Op
+        ensures { (d : ℕ) → result ≡ op_at d (act_op (next_look self.now.looks)) }
+    {
+        self.looks.next_op()
+    }
+
+    /// Takes the answer to the operation of the step.
+    pub fn absorb(&mut self, answer: u64) -> Outcome
+        ensures outcome { result ≡ answers (act_told (next_look self.old.looks) answer) None }
+        ensures next { next_look self.new.looks ≡ look_behind self.old.looks (act_told (next_look self.old.looks) answer) }
+    {
+        self.looks.absorb(answer)
     }
 }

@@ -1,6 +1,7 @@
 -- What a gate answers to its caller at a step, and what it stands for at its start.
-use Rattle.std.specs.Prelude.{ℕ, ◌<◌, Bool, List, length, Option, Some, None}
-use Rattle.policy.specs.Known.{Known}
+use Rattle.std.specs.Prelude.{ℕ, ◌<◌, ◌≤◌, Bool, true, ◌≡◌, List, length, Option, Some, None}
+use Rattle.words_layout.specs.Limits.{IsIdentity}
+use Rattle.policy.specs.Known.{Known, modifies}
 use Rattle.policy.specs.Verdict.{number, first_broken}
 use Rattle.policy.specs.Outcome.{Outcome, Refused, Value, Learns, Words, Printed, Looked, Counted}
 use Rattle.policy.specs.declared.rule.Rule.{Rule}
@@ -53,3 +54,12 @@ unless_broken (Some rule) act = refusing (Refused rule)
 abbrev pub begins : Option Known → (Known → List (Bool × Rule)) → (Known → Act Outcome) → Act Outcome
 begins None tests act = refusing (Refused UnknownSegno)
 begins (Some k) tests act = unless_broken (first_broken (tests k)) (act k)
+
+-- a known segment within the limits of the layout
+abbrev pub IsKnown : Known → Type 0
+IsKnown k = (k.class < 16) × IsIdentity k.seg × (k.size ≤ 64)
+
+-- a known segment, if any, is within the limits, and of the caller's class where it may be modified
+abbrev pub KnownTo : ℕ → Option Known → Type 0
+KnownTo d None = Unit {0}
+KnownTo d (Some k) = IsKnown k × (modifies k.rights ≡ true → k.class ≡ d)

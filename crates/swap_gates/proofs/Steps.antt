@@ -1,10 +1,16 @@
 -- The words that a swap moves, one after the other.
-use Rattle.std.proofs.Common.{ℕ, zero, suc, ◌+◌, ◌-◌, ◌<◌, ◌≤◌, ◌≡◌, refl, ◌∙◌, true, false, Bool, ◌&&◌, arith, Option, Some, None}
-use Rattle.std.proofs.lemmas.Bool.{lt-ltb, le-leb, ne_eqb}
-use Rattle.std.specs.Prelude.{◌==◌, nat_le, nat_lt, if◌then◌else◌}
+use Rattle.std.proofs.Common.{ℕ, zero, suc, ◌+◌, ◌-◌, ◌<◌, ◌≤◌, ◌≡◌, refl, ◌∙◌, true, false, Bool, ◌&&◌, arith, List, [], ◌∷◌, Option, Some, None}
+use Rattle.std.proofs.lemmas.Bool.{lt-ltb, le-leb, ne_eqb, eqb-false}
+use Rattle.std.specs.Prelude.{not, ◌==◌, nat_le, nat_lt, if◌then◌else◌}
 use Rattle.words_layout.specs.Words.{GuardedWord, FrameWord, PageWord, Guarded, WordOp}
 use Rattle.words_layout.specs.Coding.{home_in_range, page_in_range}
 use Rattle.words_layout.specs.declared.coding.Home.TheVariants as H
+use Rattle.rings.specs.Brackets.{may_write}
+use Rattle.policy.specs.Known.{Known, modifies}
+use Rattle.policy.specs.Private.{swap_in_tests}
+use Rattle.policy.specs.Verdict.{first_broken, ◌⇒◌}
+use Rattle.policy.specs.declared.rule.Rule.{Rule}
+use Rattle.policy.specs.declared.rule.Rule.TheVariants.{RingWrite, NotModify, BadSize}
 use Rattle.policy.specs.Outcome.{Outcome}
 use Rattle.words_layout.specs.declared.segment.SegId.{SegId}
 use Rattle.turns.specs.Bodies.{Inner, Outer}
@@ -121,3 +127,16 @@ pub frame_word_told : (act : Act Outcome) (u : SegId) (p : NestedPart) (whole re
     step_told act (nesting u p whole rest inner (copy_words (FrameWord f) (PageWord g) i (n - i) after) shown) answer
     ≡ going (nesting u p whole rest inner (Inner.Store (PageWord g i) answer (copy_words (FrameWord f) (PageWord g) (i + 1) (n - (i + 1)) after)) shows)
 frame_word_told act u p whole rest inner shown shows f g i n answer after on some = copy_told act u p whole rest inner shown shows (FrameWord f) (PageWord g) i n answer after on some
+
+-- where three tests are passed, the third is
+pub third_passed : (a b c : Bool) (r s t : Rule) → first_broken ((a ⇒ r) ∷ (b ⇒ s) ∷ (c ⇒ t) ∷ []) ≡ None → c ≡ false
+third_passed true b c r s t none = cc
+third_passed false true c r s t none = cc
+third_passed false false true r s t none = cc
+third_passed false false false r s t none = refl
+
+-- a segment that may be swapped in has a word
+pub not_empty : (ring : ℕ) (k : Known) → first_broken (swap_in_tests ring k) ≡ None → 1 ≤ k.size
+not_empty ring k none =
+    let e : (k.size == 0) ≡ false = third_passed (not (modifies k.rights)) (not (may_write k.brackets ring)) (k.size == 0) NotModify RingWrite BadSize none in
+    let f : k.size ≡ 0 → ⊥ = eqb-false k.size 0 e in omega (arith, f)

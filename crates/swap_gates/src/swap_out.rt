@@ -7,8 +7,8 @@ ghost use Rattle.turns.specs.Nest.{in_inner, in_outer};
 ghost use Rattle.swap_gates.specs.OutRest.{acts};
 ghost use Rattle.swap_gates.specs.declared.swap_out.Rest.{Rest};
 
-use gate_parts::{home_taken, refused, value};
-use policy::{Known, Outcome, Reply, Rule};
+use gate_parts::{home_taken, no_segment};
+use policy::{Caller, Known, Outcome, Reply, Rule, swap_out_refusal, usable};
 use turns::{NestedStep, NestedTurn};
 use words_layout::{
     Home, Op, frame_tenant_addr, frame_word_addr, home_addr, pack_home, page_tenant_addr,
@@ -72,13 +72,62 @@ impl SwapOut {
     ghost use Rattle.words_layout.specs.Named.{op_at};
     ghost use Rattle.policy.specs.Outcome.{Outcome};
     ghost use Rattle.turns.specs.Classes.{NamesOnly};
-    ghost use Rattle.turns.specs.Doing.{Told, going};
+    ghost use Rattle.turns.specs.Doing.{Told, going, Fresh, ClassTurn};
     ghost use Rattle.turns.specs.Stands.{step_op, step_told};
-    ghost use Rattle.gate_parts.specs.Replies.{answers, reply_of, reply_kept};
+    ghost use Rattle.std.specs.Option.{option_map};
+    ghost use Rattle.policy.specs.Known.{usable};
+    ghost use Rattle.policy.specs.Private.{swap_out_tests};
+    ghost use Rattle.swap_gates.specs.Swap.{swap_out_body};
+    ghost use Rattle.gate_parts.specs.Replies.{begins, unless_broken, IsKnown, KnownTo, answers, reply_of, reply_kept};
     ghost use Rattle.swap_gates.specs.SwappingOut.{act_of, doing_of, out_shows};
     ghost use Rattle.swap_gates.specs.InRest.{page_of};
     ghost use Rattle.words_layout.specs.Coding.{home_in_range};
     ghost use Rattle.words_layout.specs.declared.coding.Home.{Home};
+
+    /// Makes the private tests. `pool` is how many pages the class has. An empty place, or one that may be signalled
+    /// alone, gives UnknownSegno.
+    pub fn start(who: &Caller, known: Option<&Known>, pool: u8) -> SwapOut
+        requires class { who.now.class < 16 }
+        requires known { KnownTo who.now.class (option_map (λ k. k.now) known) }
+        requires pool { pool ≤ 32 }
+        ensures act { act_of result ≡ begins (usable (option_map (λ k. k.now) known.entry)) (swap_out_tests who.now.ring) (λ k. ClassTurn (swap_out_body pool k)) }
+        ensures fresh { doing_of result ≡ Fresh }
+        ensures class { result.class ≡ who.now.class }
+        ensures reply { result.reply ≡ None }
+    {
+        match usable(known) {
+            None => SwapOut::at_start(who.class, no_segment(), pool, Some(Rule::UnknownSegno)),
+            Some(known) => {
+                SwapOut::at_start(who.class, *known, pool, swap_out_refusal(who.ring, known))
+            }
+        }
+    }
+
+    /// The gate before its first step, with the first broken private test.
+    fn at_start(class: u8, known: Known, pool: u8, refusal: Option<Rule>) -> SwapOut
+        requires class { class < 16 }
+        requires known { IsKnown known }
+        requires pool { pool ≤ 32 }
+        ensures act { act_of result ≡ unless_broken refusal (ClassTurn (swap_out_body pool known)) }
+        ensures fresh { doing_of result ≡ Fresh }
+        ensures class { result.class ≡ class }
+        ensures reply { result.reply ≡ None }
+    {
+        SwapOut {
+            class,
+            known,
+            pool,
+            refusal,
+            turns: NestedTurn::round(class, known.seg),
+            rest: Rest::Shown(None),
+            frame: 0,
+            size: 1,
+            page: 0,
+            place: 0,
+            word: 0,
+            reply: None,
+        }
+    }
 
     /// The operation of the next step.
     #[tactic(auto, using(crate::proofs::Steps::find_asked, crate::proofs::Steps::copy_asked, turns::proofs::Nesting::inner_asks, turns::proofs::Nesting::nesting_asks, crate::proofs::Steps::stored_spelled))]
@@ -128,7 +177,7 @@ impl SwapOut {
         ensures class { self.new.class ≡ self.old.class }
     {
         if let Some(rule) = self.refusal {
-            return Outcome::Done(refused(rule));
+            return Outcome::Done(Reply::refused(rule));
         }
         match self.rest {
             Rest::Home => self.take_home(answer),
@@ -314,7 +363,7 @@ impl SwapOut {
                 Outcome::Going
             }
             NestedStep::Finished => Outcome::Done(self.reply_shown()),
-            NestedStep::Over => Outcome::Done(self.reply.unwrap_or(value(0))),
+            NestedStep::Over => Outcome::Done(self.reply.unwrap_or(Reply::ok(0))),
         }
     }
 
@@ -323,8 +372,8 @@ impl SwapOut {
         ensures { result ≡ reply_of (out_shows self.now.rest) }
     {
         match self.rest {
-            Rest::Shown(Some(rule)) => refused(rule),
-            _ => value(0),
+            Rest::Shown(Some(rule)) => Reply::refused(rule),
+            _ => Reply::ok(0),
         }
     }
 

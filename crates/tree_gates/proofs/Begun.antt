@@ -1,11 +1,11 @@
 -- What holds where the private tests pass.
-use Rattle.std.proofs.Common.{ℕ, ◌≡◌, ◌≤◌, ◌<◌, ◌⊎◌, inl, inr, Bool, true, false, refl, arith, List, [], ◌∷◌, length, Option, Some, None}
+use Rattle.std.proofs.Common.{ℕ, ◌≡◌, ◌≤◌, ◌<◌, ◌⊎◌, inl, inr, Bool, true, false, refl, subst, arith, List, [], ◌∷◌, length, Option, Some, None}
 use Rattle.std.specs.Prelude.{not, ◌||◌, ◌==◌, nat_lt, nat_le, if◌then◌else◌}
 use Rattle.std.proofs.lemmas.Bool.{eqb-true, eqb-false, ltb-false, leb-false}
 use Rattle.labels.specs.Label.{ClassEntry, at_or_below}
 use Rattle.rings.specs.Brackets.{in_order, may_read, may_write}
 use Rattle.policy.specs.Known.{Known, usable, signals, modifies}
-use Rattle.tree_gates.specs.Limits.{KnownWithin, PlaceWithin}
+use Rattle.gate_parts.specs.Replies.{IsKnown, KnownTo}
 use Rattle.policy.specs.Verdict.{first_broken}
 use Rattle.policy.specs.Private.{make_known_tests, create_tests, delete_tests, brackets_of}
 use Rattle.policy.specs.declared.rule.Rule.TheVariants.{RingRead, RingWrite, NotModify, BadEntry, BadMode, KstFull, BadClass, Compat, BadBrackets, BadSize}
@@ -19,8 +19,8 @@ usable_known (Some j) k e = by_signal (signals j.rights) e
     by_signal true e = cc
     by_signal false e = cc
 
-pub usable_within : (known : Option Known) (k : Known) → PlaceWithin known → Some k ≡ usable known → KnownWithin k
-usable_within known k within e = within k (usable_known known k e)
+pub usable_within : (d : ℕ) (known : Option Known) (k : Known) → KnownTo d known → Some k ≡ usable known → IsKnown k
+usable_within d known k within e = (subst (KnownTo d) (usable_known known k e) within).0
 
 four_pass : (a b c d : Bool) → first_broken ((a, RingRead) ∷ (b, BadEntry) ∷ (c, BadMode) ∷ (d, KstFull) ∷ []) ≡ None → (b ≡ false) × (c ≡ false)
 four_pass true b c d e = cc
@@ -83,7 +83,7 @@ create_passes : (table : List ClassEntry) (ring entry class brackets size : ℕ)
     (nat_lt 7 entry ≡ false) × (nat_le (length table) class ≡ false) × ((nat_lt 511 brackets || not (in_order (brackets_of brackets))) ≡ false) × ((size == 0 || nat_lt 64 size) ≡ false)
 create_passes table ring entry class brackets size k e =
     seven_pass (not (modifies k.rights)) (not (may_write k.brackets ring)) (nat_lt 7 entry) (nat_le (length table) class) (not (at_or_below table k.class class))
-        (nat_lt 511 brackets || not (in_order (brackets_of brackets))) (size == 0 || nat_lt 64 size) e
+    (nat_lt 511 brackets || not (in_order (brackets_of brackets))) (size == 0 || nat_lt 64 size) e
 
 pub create_entry : (table : List ClassEntry) (ring entry class brackets size : ℕ) (k : Known) → first_broken (create_tests table ring entry class brackets size k) ≡ None → entry < 8
 create_entry table ring entry class brackets size k e = let h : entry ≤ 7 = ltb-false 7 entry (create_passes table ring entry class brackets size k e).0 in omega arith

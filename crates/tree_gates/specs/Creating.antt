@@ -46,7 +46,7 @@ create_act s None = ClassTurn (create_body s.seg s.entry s.child_class s.bracket
 abbrev pub create_doing : Create → Option Rule → Doing Outcome
 create_doing s (Some rule) = Fresh
 create_doing s None = nesting s.seg s.turns.part (create_body s.seg s.entry s.child_class s.brackets s.size)
-  (create_left s.seg s.entry s.child_class s.brackets s.size s.serial s.rest) (Inner.Shows (Value 0)) (Inner.Shows (Value 0)) (create_shows s.serial s.rest)
+    (create_left s.seg s.entry s.child_class s.brackets s.size s.serial s.rest) (Inner.Shows (Value 0)) (Inner.Shows (Value 0)) (create_shows s.serial s.rest)
 
 -- what it does, and how far it is
 abbrev pub act_of : Create → Act Outcome

@@ -17,13 +17,13 @@ use Rattle.turns.specs.Bodies.{Loads, Inner, Outer}
 -- makeknown: a look at the class of the mentor; load the entry
 abbrev pub make_known_body : List ClassEntry → ℕ → ℕ → Known → ℕ → ℕ → Loads Outcome
 make_known_body table d ring k e mode =
-  Loads.Load (EntryOf k.seg e) (λ w. Loads.Shows (shown table d ring k.class mode (in_table table (entry_of w))))
+    Loads.Load (EntryOf k.seg e) (λ w. Loads.Shows (shown table d ring k.class mode (in_table table (entry_of w))))
 
 -- the next serial goes up, and the entry takes the new segment
 abbrev pub create_serial : SegId → ℕ → ℕ → Brackets → ℕ → ℕ → Outer Outcome
 create_serial u e class b size n =
-  if nat_le 64 n then Outer.Shows (Refused SerialsUsed)
-  else Outer.Store NextSerial (plus_one n)
+    if nat_le 64 n then Outer.Shows (Refused SerialsUsed)
+    else Outer.Store NextSerial (plus_one n)
     (Outer.Store (EntryOf u e) (pack_entry (new_alias class b size n)) (Outer.Shows (Value n)))
 
 abbrev pub create_entry : SegId → ℕ → ℕ → Brackets → ℕ → Option Alias → Outer Outcome
@@ -42,7 +42,7 @@ create_body u e class b size = Outer.Load (HomeOf u) (λ w. create_home u e clas
 abbrev pub check_entries : SegId → ℕ → ℕ → Outer Outcome → Outer Outcome
 check_entries u e zero rest = rest
 check_entries u e (suc n) rest =
-  Outer.Load (EntryOf u e) (λ w. if is_some (entry_of w) then Outer.Shows (Refused NotEmpty) else check_entries u (e + 1) n rest)
+    Outer.Load (EntryOf u e) (λ w. if is_some (entry_of w) then Outer.Shows (Refused NotEmpty) else check_entries u (e + 1) n rest)
 
 abbrev pub free_page : Option ℕ → Inner Outcome → Inner Outcome
 free_page None rest = rest
@@ -57,14 +57,14 @@ free_home _ rest = rest
 -- within the child's turn: its frame and page are freed, it is Deleted, and entry e of its mentor u is emptied
 abbrev pub delete_child : SegId → SegId → ℕ → Inner Outcome
 delete_child child u e = Inner.Load (HomeOf child) (λ w. free_home (home_of w)
-  (Inner.Store (HomeOf child) (pack_home H.Deleted) (Inner.Store (EntryOf u e) 0 (Inner.Shows (Value 0)))))
+    (Inner.Store (HomeOf child) (pack_home H.Deleted) (Inner.Store (EntryOf u e) 0 (Inner.Shows (Value 0)))))
 
 abbrev pub delete_entry : ℕ → SegId → ℕ → Option Alias → Outer Outcome
 delete_entry d u e None = Outer.Shows (Refused NoEntry)
 delete_entry d u e (Some a) =
-  if a.class == d
-  then check_entries (seg d a.serial) 0 8 (Outer.Enter (seg d a.serial) (delete_child (seg d a.serial) u e))
-  else Outer.Store (EntryOf u e) 0 (Outer.Shows (Value 0))
+    if a.class == d
+    then check_entries (seg d a.serial) 0 8 (Outer.Enter (seg d a.serial) (delete_child (seg d a.serial) u e))
+    else Outer.Store (EntryOf u e) 0 (Outer.Shows (Value 0))
 
 -- delete: the class's turn; load the entry; where the child is of the own class, its entries are loaded and its turn is taken
 abbrev pub delete_body : ℕ → SegId → ℕ → Outer Outcome

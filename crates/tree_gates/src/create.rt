@@ -11,7 +11,9 @@ use labels::ClassTable;
 use policy::{Caller, Known, Outcome, Reply, Rule, brackets_from, create_refusal, usable};
 use rings::Brackets;
 use turns::{NestedStep, NestedTurn};
-use words_layout::{Alias, Home, Op, SERIAL_LIMIT, SegId, entry_addr, home_addr, pack_alias, serial_addr};
+use words_layout::{
+    Alias, Home, Op, SERIAL_LIMIT, SegId, entry_addr, home_addr, pack_alias, serial_addr,
+};
 
 /// What the body does next.
 #[derive(Clone, Copy, Debug, PartialEq, Eq)]
@@ -67,8 +69,8 @@ impl Create {
     ghost use Rattle.turns.specs.Classes.{NamesOnly};
     ghost use Rattle.turns.specs.Doing.{Told, Fresh, going};
     ghost use Rattle.turns.specs.Stands.{step_op, step_told, refusing};
-    ghost use Rattle.gate_parts.specs.Replies.{answers, begins, unless_broken, reply_of};
-    ghost use Rattle.tree_gates.specs.Limits.{KnownWithin, PlaceWithin, PlaceInTable};
+    ghost use Rattle.gate_parts.specs.Replies.{IsKnown, KnownTo, answers, begins, unless_broken, reply_of};
+    ghost use Rattle.tree_gates.specs.Limits.{PlaceInTable};
     ghost use Rattle.tree_gates.specs.Creating.{create_by, act_of, doing_of, create_shows};
 
     /// Begins it.
@@ -83,7 +85,7 @@ impl Create {
         size: u64,
     ) -> Create
         requires who { who.now.class < 16 }
-        requires known { PlaceWithin (option_map (λ k. k.now) known) }
+        requires known { KnownTo who.now.class (option_map (λ k. k.now) known) }
         requires table { PlaceInTable table.now (option_map (λ k. k.now) known) }
         ensures act { act_of result ≡ begins (usable (option_map (λ k. k.now) known.entry)) (create_tests table.now who.now.ring entry class brackets size)
             (create_by entry class brackets size) }
@@ -108,7 +110,7 @@ impl Create {
         size: u64,
     ) -> Create
         requires who { who.now.class < 16 }
-        requires known { KnownWithin known.now }
+        requires known { IsKnown known.now }
         requires table { known.now.class < length table.now }
         ensures act { act_of result ≡ unless_broken (first_broken (create_tests table.now who.now.ring entry class brackets size known.now))
             (create_by entry class brackets size known.now) }

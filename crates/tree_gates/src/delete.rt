@@ -12,7 +12,10 @@ ghost use Rattle.tree_gates.specs.declared.delete.Rest.{Rest};
 use gate_parts::{entry_taken, home_taken};
 use policy::{Caller, Known, Outcome, Reply, Rule, delete_refusal, usable};
 use turns::{NestedStep, NestedTurn};
-use words_layout::{ENTRY_COUNT, Home, Op, SegId, entry_addr, frame_tenant_addr, home_addr, pack_home, page_tenant_addr};
+use words_layout::{
+    ENTRY_COUNT, Home, Op, SegId, entry_addr, frame_tenant_addr, home_addr, pack_home,
+    page_tenant_addr,
+};
 
 /// What the bodies do next.
 #[derive(Clone, Copy, Debug, PartialEq, Eq)]
@@ -81,7 +84,6 @@ impl Delete {
     ghost use Rattle.policy.specs.Known.{usable};
     ghost use Rattle.policy.specs.Verdict.{first_broken};
     ghost use Rattle.policy.specs.Private.{delete_tests};
-    ghost use Rattle.tree_gates.specs.Limits.{KnownWithin, PlaceWithin};
     ghost use Rattle.tree_gates.specs.Tree.{delete_body};
     ghost use Rattle.std.specs.Prelude.{ℕ, None, Some};
     ghost use Rattle.words_layout.specs.Named.{op_at};
@@ -89,14 +91,14 @@ impl Delete {
     ghost use Rattle.turns.specs.Classes.{NamesOnly};
     ghost use Rattle.turns.specs.Doing.{Told, Fresh, ClassTurn, going};
     ghost use Rattle.turns.specs.Stands.{step_op, step_told};
-    ghost use Rattle.gate_parts.specs.Replies.{answers, begins, unless_broken, reply_of, reply_kept};
+    ghost use Rattle.gate_parts.specs.Replies.{IsKnown, KnownTo, answers, begins, unless_broken, reply_of, reply_kept};
     ghost use Rattle.tree_gates.specs.Deleting.{delete_by, act_of, doing_of, delete_shows};
 
     /// Begins it.
     #[tactic(auto, using(crate::proofs::Begun::usable_known, crate::proofs::Begun::usable_within))]
     pub fn start(who: &Caller, known: Option<&Known>, entry: u64) -> Delete
         requires who { who.now.class < 16 }
-        requires known { PlaceWithin (option_map (λ k. k.now) known) }
+        requires known { KnownTo who.now.class (option_map (λ k. k.now) known) }
         ensures act { act_of result ≡ begins (usable (option_map (λ k. k.now) known.entry)) (delete_tests who.now.ring entry) (delete_by who.now.class entry) }
         ensures fresh { doing_of result ≡ Fresh }
         ensures class { result.class ≡ who.now.class }
@@ -112,7 +114,7 @@ impl Delete {
     #[tactic(auto, using(crate::proofs::Begun::delete_entry))]
     fn begun(who: &Caller, known: &Known, entry: u64) -> Delete
         requires who { who.now.class < 16 }
-        requires known { KnownWithin known.now }
+        requires known { IsKnown known.now }
         ensures act { act_of result ≡ unless_broken (first_broken (delete_tests who.now.ring entry known.now)) (delete_by who.now.class entry known.now) }
         ensures fresh { doing_of result ≡ Fresh }
         ensures class { result.class ≡ who.now.class }
@@ -285,7 +287,9 @@ impl Delete {
                 self.rest = Rest::FreeFrame;
             }
             Home::Resident {
-                frame, page: None, ..
+                frame,
+                page: None,
+                ..
             } => {
                 self.frame = frame;
                 self.paged = false;

@@ -8,12 +8,15 @@ ghost use Rattle.words_layout.specs.declared.coding.Alias.{Alias};
 ghost use Rattle.tree_gates.specs.MakeKnownRest.{loads, IsEntry};
 ghost use Rattle.tree_gates.specs.declared.make_known.Rest.{Rest};
 
-use gate_parts::entry_taken;
+use gate_parts::{entry_taken, no_segment};
 use labels::ClassTable;
-use policy::{Caller, Known, Outcome, Reply, Rights, Rule, brackets_in, in_table, make_known_refusal, usable, verdict};
-use rings::{Brackets, Ring};
+use policy::{
+    Caller, Known, Outcome, Reply, Rights, Rule, brackets_in, in_table, make_known_refusal, usable,
+    verdict,
+};
+use rings::Ring;
 use turns::{Guard, Look, LookStep};
-use words_layout::{Alias, Op, SegId, entry_addr};
+use words_layout::{Alias, Op, entry_addr};
 
 /// What the body does next.
 #[derive(Clone, Copy, Debug, PartialEq, Eq)]
@@ -48,27 +51,6 @@ pub struct MakeKnown {
     ghost fits: { (a : Alias) → rest ≡ Rest.Learns a → IsEntry a },
 }
 
-/// What stands for the mentor where none is known: a segment by which nothing is done.
-fn nothing_known() -> Known
-    ensures class { result.class ≡ 0 }
-    ensures seg { IsIdentity result.seg }
-{
-    Known {
-        seg: SegId {
-            mentor: 0,
-            serial: 0,
-        },
-        class: 0,
-        brackets: Brackets {
-            r1: 0,
-            r2: 0,
-            r3: 0,
-        },
-        size: 0,
-        rights: Rights::wanted(1),
-    }
-}
-
 impl MakeKnown {
     ghost use Rattle.std.specs.Prelude.{ℕ, List, false, None};
     ghost use Rattle.std.specs.Option.{option_map};
@@ -82,8 +64,7 @@ impl MakeKnown {
     ghost use Rattle.turns.specs.Classes.{LoadsOnly};
     ghost use Rattle.turns.specs.Doing.{Told, Fresh, going};
     ghost use Rattle.turns.specs.Stands.{step_op, step_told, refusing};
-    ghost use Rattle.gate_parts.specs.Replies.{answers, begins, unless_broken, reply_of};
-    ghost use Rattle.tree_gates.specs.Limits.{KnownWithin, PlaceWithin};
+    ghost use Rattle.gate_parts.specs.Replies.{IsKnown, KnownTo, answers, begins, unless_broken, reply_of};
     ghost use Rattle.tree_gates.specs.MakingKnown.{make_known_by, act_of, doing_of, make_known_shows, FoundBy};
 
     /// Begins it. `full` says that the caller's known table has no empty place.
@@ -96,7 +77,7 @@ impl MakeKnown {
         full: bool,
     ) -> MakeKnown
         requires who { who.now.class < 16 }
-        requires known { PlaceWithin (option_map (λ k. k.now) known) }
+        requires known { KnownTo who.now.class (option_map (λ k. k.now) known) }
         ensures act { (table : List ClassEntry) → act_of table result ≡ begins (usable (option_map (λ k. k.now) known.entry)) (make_known_tests who.now.ring entry mode full)
             (make_known_by table who.now.class who.now.ring entry mode) }
         ensures fresh { (table : List ClassEntry) → doing_of table result ≡ Fresh }
@@ -113,7 +94,7 @@ impl MakeKnown {
     #[tactic(auto, using(crate::proofs::Begun::make_known_entry, crate::proofs::Begun::make_known_mode))]
     fn begun(who: &Caller, known: &Known, entry: u64, mode: u64, full: bool) -> MakeKnown
         requires who { who.now.class < 16 }
-        requires known { KnownWithin known.now }
+        requires known { IsKnown known.now }
         ensures act { (table : List ClassEntry) → act_of table result ≡ unless_broken (first_broken (make_known_tests who.now.ring entry mode full known.now))
             (make_known_by table who.now.class who.now.ring entry mode known.now) }
         ensures fresh { (table : List ClassEntry) → doing_of table result ≡ Fresh }
@@ -144,14 +125,15 @@ impl MakeKnown {
         ensures class { result.class ≡ who.now.class }
         ensures found { result.found ≡ None }
     {
+        let mentor = no_segment();
         MakeKnown {
             class: who.class,
             ring: who.ring,
-            mentor: nothing_known(),
+            mentor,
             entry: 0,
             want: Rights::wanted(1),
             refusal: Some(rule),
-            look: Look::new(Guard::Class(0)),
+            look: Look::new(Guard::Class(mentor.class)),
             rest: Rest::Refused(rule),
             found: None,
         }

@@ -68,6 +68,21 @@ impl NestedTurn {
         }
     }
 
+    /// The same, where it is known which segment's turn is to stand in the class's.
+    pub fn round(class: u8, seg: SegId) -> NestedTurn
+        requires class { class < 16 }
+        requires seg { IsIdentity seg }
+        ensures class { result.class ≡ class }
+        ensures seg { result.seg ≡ seg }
+        ensures part { result.part ≡ nested_first }
+    {
+        NestedTurn {
+            class,
+            seg,
+            part: NestedPart::Outer(TurnPart::First),
+        }
+    }
+
     /// The operation of the part.
     pub fn next_op(&self) -> Op
         requires { (in_outer self.now.part || in_inner self.now.part) ≡ false }
