@@ -8,6 +8,7 @@ use arrayvec::ArrayString;
 use labels::{ClassTable, Label};
 use policy::{Caller, Known, Outcome, Reply, Rights};
 use rings::{Brackets, Ring};
+use std::alloc::Global;
 use std::test::Fail;
 use words_layout::{Op, SegId};
 
@@ -65,13 +66,15 @@ fn mentor() -> Known
     }
 }
 
-fn class_table(rt: &HostRuntime) -> Result<ClassTable, Fail> {
-    let mut entries = Vec::new(rt.alloc());
-    for (name, text) in [("low", "0{}/15{}"), ("high", "1{3}/15{}")] {
-        let name: ArrayString<16> = ArrayString::from(name).ok().ok_or("a name")?;
-        entries.push((name, Label::parse(text).ok().ok_or("a label")?))?;
-    }
-    assert_eq!(*rt; entries.len(), 2);
+fn class(name: &str, label: &str) -> Result<(ArrayString<16>, Label), Fail> {
+    let name: ArrayString<16> = ArrayString::from(name).ok().ok_or("a name")?;
+    Ok((name, Label::parse(label).ok().ok_or("a label")?))
+}
+
+fn class_table(alloc: Global) -> Result<ClassTable, Fail> {
+    let mut entries = Vec::new(alloc);
+    entries.push(class("low", "0{}/15{}")?)?;
+    entries.push(class("high", "1{3}/15{}")?)?;
     Ok(ClassTable::new(entries).ok().ok_or("a table")?)
 }
 
@@ -104,7 +107,7 @@ fn creates(rt: HostRuntime) -> Result<(), Fail> {
         ring: Ring(4),
     };
     let mentor = mentor();
-    let table = class_table(&rt)?;
+    let table = class_table(rt.alloc())?;
     table.table_law();
     for (answers, code, value) in CREATES {
         let mut gate = Create::start(&who, Some(&mentor), &table, 2, 0, 511, 1);
@@ -125,7 +128,7 @@ fn makes_known(rt: HostRuntime) -> Result<(), Fail> {
         ring: Ring(4),
     };
     let mentor = mentor();
-    let table = class_table(&rt)?;
+    let table = class_table(rt.alloc())?;
     table.table_law();
     for (word, code, serial) in [(CHILD, 0, Some(3)), (HIGHER, 6, None), (0, 4, None)] {
         let mut gate = MakeKnown::start(&who, Some(&mentor), 2, 1, false);
