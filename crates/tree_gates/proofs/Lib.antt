@@ -1,1 +1,4 @@
+pub mod Entries
+pub mod Begun
 pub mod Created
+pub mod Deleted

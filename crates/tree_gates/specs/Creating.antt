@@ -4,7 +4,8 @@ use Rattle.rings.specs.Brackets.{Brackets}
 use Rattle.words_layout.specs.Words.{NextSerial, HomeOf, EntryOf, plus_one}
 use Rattle.words_layout.specs.Coding.{entry_of, pack_entry}
 use Rattle.words_layout.specs.declared.segment.SegId.{SegId}
-use Rattle.policy.specs.Known.{new_alias}
+use Rattle.policy.specs.Known.{Known, new_alias}
+use Rattle.policy.specs.Private.{brackets_of}
 use Rattle.policy.specs.Outcome.{Outcome, Refused, Value}
 use Rattle.policy.specs.declared.rule.Rule.{Rule}
 use Rattle.turns.specs.Bodies.{Inner, Outer}
@@ -32,6 +33,10 @@ create_left u e class b size n (R.Shown refusal) = create_body u e class b size
 abbrev pub create_shows : (serial : ℕ) → Rest → Outcome
 create_shows n (R.Shown (Some rule)) = Refused rule
 create_shows n _ = Value n
+
+-- the act by a known mentor, with class, brackets and size as they are given
+abbrev pub create_by : (entry class brackets size : ℕ) → Known → Act Outcome
+create_by entry class brackets size k = ClassTurn (create_body k.seg entry class (brackets_of brackets) size)
 
 -- the act, by the first broken private test
 abbrev pub create_act : Create → Option Rule → Act Outcome

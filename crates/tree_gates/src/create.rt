@@ -1,13 +1,14 @@
 //! Create: the class's turn: load the mentor's home, the entry and the next serial; store the next serial and the entry.
 
-ghost use Rattle.std.specs.Prelude.{◌≡◌, ◌<◌, ◌≤◌, None, true, false};
+ghost use Rattle.std.specs.Prelude.{◌≡◌, ◌<◌, ◌≤◌, None, true, false, length};
 ghost use Rattle.words_layout.specs.Limits.{IsIdentity};
 ghost use Rattle.turns.specs.Nest.{in_inner, in_outer};
 ghost use Rattle.tree_gates.specs.CreateRest.{acts, is_outer};
 ghost use Rattle.tree_gates.specs.declared.create.Rest.{Rest};
 
 use gate_parts::{entry_taken, home_taken};
-use policy::{Outcome, Reply, Rule};
+use labels::ClassTable;
+use policy::{Caller, Known, Outcome, Reply, Rule, brackets_from, create_refusal, usable};
 use rings::Brackets;
 use turns::{NestedStep, NestedTurn};
 use words_layout::{
@@ -60,13 +61,110 @@ impl Create {
     ghost use Rattle.std.specs.Prelude.{ℕ, Some};
     ghost use Rattle.words_layout.specs.Named.{op_at};
     ghost use Rattle.words_layout.specs.Coding.{alias_in_range};
-    ghost use Rattle.policy.specs.Outcome.{Outcome};
-    ghost use Rattle.policy.specs.Known.{new_alias};
+    ghost use Rattle.policy.specs.Outcome.{Outcome, Refused};
+    ghost use Rattle.policy.specs.Verdict.{first_broken};
+    ghost use Rattle.policy.specs.Private.{create_tests};
+    ghost use Rattle.policy.specs.Known.{new_alias, usable};
+    ghost use Rattle.std.specs.Option.{option_map};
     ghost use Rattle.turns.specs.Classes.{NamesOnly};
-    ghost use Rattle.turns.specs.Doing.{Told, going};
-    ghost use Rattle.turns.specs.Stands.{step_op, step_told};
-    ghost use Rattle.gate_parts.specs.Replies.{answers, reply_of};
-    ghost use Rattle.tree_gates.specs.Creating.{act_of, doing_of, create_shows};
+    ghost use Rattle.turns.specs.Doing.{Told, Fresh, going};
+    ghost use Rattle.turns.specs.Stands.{step_op, step_told, refusing};
+    ghost use Rattle.gate_parts.specs.Replies.{IsKnown, KnownTo, answers, begins, unless_broken, reply_of};
+    ghost use Rattle.tree_gates.specs.Limits.{PlaceInTable};
+    ghost use Rattle.tree_gates.specs.Creating.{create_by, act_of, doing_of, create_shows};
+
+    /// Begins it.
+    #[tactic(auto, using(crate::proofs::Begun::usable_known, crate::proofs::Begun::usable_within))]
+    pub fn start(
+        who: &Caller,
+        known: Option<&Known>,
+        table: &ClassTable,
+        entry: u64,
+        class: u64,
+        brackets: u64,
+        size: u64,
+    ) -> Create
+        requires who { who.now.class < 16 }
+        requires known { KnownTo who.now.class (option_map (λ k. k.now) known) }
+        requires table { PlaceInTable table.now (option_map (λ k. k.now) known) }
+        ensures act { act_of result ≡ begins (usable (option_map (λ k. k.now) known.entry)) (create_tests table.now who.now.ring entry class brackets size)
+            (create_by entry class brackets size) }
+        ensures fresh { doing_of result ≡ Fresh }
+        ensures class { result.class ≡ who.now.class }
+    {
+        match usable(known) {
+            Some(known) => Create::begun(who, known, table, entry, class, brackets, size),
+            None => Create::refused(who, Rule::UnknownSegno),
+        }
+    }
+
+    /// Begins it with a known segment that may be used.
+    #[tactic(auto, using(crate::proofs::Begun::create_entry, crate::proofs::Begun::create_class, crate::proofs::Begun::create_brackets, crate::proofs::Begun::create_size))]
+    fn begun(
+        who: &Caller,
+        known: &Known,
+        table: &ClassTable,
+        entry: u64,
+        class: u64,
+        brackets: u64,
+        size: u64,
+    ) -> Create
+        requires who { who.now.class < 16 }
+        requires known { IsKnown known.now }
+        requires table { known.now.class < length table.now }
+        ensures act { act_of result ≡ unless_broken (first_broken (create_tests table.now who.now.ring entry class brackets size known.now))
+            (create_by entry class brackets size known.now) }
+        ensures fresh { doing_of result ≡ Fresh }
+        ensures class { result.class ≡ who.now.class }
+    {
+        if let Some(rule) = create_refusal(table, who.ring, known, entry, class, brackets, size) {
+            return Create::refused(who, rule);
+        }
+        table.table_law();
+        let Some(brackets) = brackets_from(brackets) else {
+            unreachable!()
+        };
+        Create {
+            class: who.class,
+            seg: known.seg,
+            entry: entry as u8,
+            child_class: class as u8,
+            brackets,
+            size: size as u8,
+            refusal: None,
+            turns: NestedTurn::new(who.class),
+            rest: Rest::Shown(None),
+            serial: 0,
+        }
+    }
+
+    /// Refused by a private test.
+    fn refused(who: &Caller, rule: Rule) -> Create
+        requires { who.now.class < 16 }
+        ensures act { act_of result ≡ refusing (Refused rule) }
+        ensures fresh { doing_of result ≡ Fresh }
+        ensures class { result.class ≡ who.now.class }
+    {
+        Create {
+            class: who.class,
+            seg: SegId {
+                mentor: 0,
+                serial: 0,
+            },
+            entry: 0,
+            child_class: 0,
+            brackets: Brackets {
+                r1: 0,
+                r2: 0,
+                r3: 0,
+            },
+            size: 1,
+            refusal: Some(rule),
+            turns: NestedTurn::new(who.class),
+            rest: Rest::Shown(Some(rule)),
+            serial: 0,
+        }
+    }
 
     /// The operation of the next step.
     #[tactic(auto, using(turns::proofs::Nesting::outer_asks, turns::proofs::Nesting::nesting_asks, crate::proofs::Created::outer_quiet))]
