@@ -4,7 +4,6 @@ pub mod Headline
 pub mod Runs
 pub mod Scripts
 pub mod Sections
-pub mod SmallText
 pub mod Texts
 pub mod ThinFlow
 pub mod ThinLists
@@ -14,4 +13,3 @@ pub mod ThinRun
 pub mod ThinSections
 pub mod ThinStands
 pub mod ThinText
-pub mod ThinValid

@@ -76,15 +76,9 @@ torn_as before after s t e p = subst (Torn before after) e p
 pub prints_as : (before after : ℕ → Port) (s t : List ℕ) (r : Result (Unit {0}) Failed) → s ≡ t → Prints before after s r → Prints before after t r
 prints_as before after s t r e p = subst (λ (x : List ℕ). Prints before after x r) e p
 
-table_short : (xs : List ClassEntry) (c : ℕ) → list_all (λ (x : ClassEntry). is_name x.name) xs ≡ true → c < length xs → length (class_at xs c).name ≤ 16
-table_short [] c h l = absurd (omega arith)
-table_short (x ∷ xs) zero h l =
-    let one : (is_name x.name ≡ true) × (list_all (λ (y : ClassEntry). is_name y.name) xs ≡ true) = and_parts _ _ h in
-    leb-true (length x.name) 16 (and_parts _ _ (and_parts _ _ one.0).0).1
-table_short (x ∷ xs) (suc c) h l =
-    let one : (is_name x.name ≡ true) × (list_all (λ (y : ClassEntry). is_name y.name) xs ≡ true) = and_parts _ _ h in
-    table_short xs c one.1 (omega arith)
+short_name : (name : List ℕ) → is_name name ≡ true → length name ≤ 16
+short_name name h = leb-true (length name) 16 (and_parts _ _ (and_parts _ _ h).0).1
 
 -- the name of a class has at most 16 bytes
 pub name_short : (k : ConfigText) (x : RunOf) (name : List ℕ) (d : ℕ) → IsValid k → x.class < length k.table → d ≡ x.class → name ≡ (class_at k.table d).name → length name ≤ 16
-name_short k x name d valid h e n = subst (λ (t : List ℕ). length t ≤ 16) (sym (n ∙ ap (λ (t : ℕ). (class_at k.table t).name) e)) (table_short k.table x.class valid.names h)
+name_short k x name d valid h e n = subst (λ (t : List ℕ). length t ≤ 16) (sym (n ∙ ap (λ (t : ℕ). (class_at k.table t).name) e)) (short_name (class_at k.table x.class).name (valid.names x.class h))

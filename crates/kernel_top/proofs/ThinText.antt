@@ -61,8 +61,11 @@ module _ (k : ConfigText) (valid : IsValid k) (narrow : IsNarrow k) where
     let one : k.processors ≡ 1 = narrow.processor in omega arith
 
   line_thin : (x : ProcessText) → text_process_ok k x ≡ true → thin_line here (process_of_text x) ≡ true
-  line_thin x h = and_from _ _ (eq-eqb x.processor 0 (on_zero x h))
-    (le-leb _ 1 (rw (count_of_map (λ (y : ProcessLine). y.class == x.class) k.processes) (narrow.processes x.class)))
+  line_thin x h =
+    let inside = and_parts _ _ (and_parts _ _ (and_parts _ _ h).0).0 in
+    and_from _ _ (eq-eqb x.processor 0 (on_zero x h))
+      (le-leb _ 1 (rw (count_of_map (λ (y : ProcessLine). y.class == x.class) k.processes)
+        (narrow.processes x.class (ltb-true x.class (length k.table) inside.1))))
 
   -- it is a thin configuration
   pub text_thin : IsThin here
@@ -82,8 +85,10 @@ module _ (k : ConfigText) (valid : IsValid k) (narrow : IsNarrow k) where
   line_ok : (x : ProcessText) → text_process_ok k x ≡ true → process_ok here (process_of_text x) ≡ true
   line_ok x h =
     let tests = and_parts _ _ h in
+    let inside = and_parts _ _ (and_parts _ _ tests.0).0 in
     and_from _ _ (and_from _ _ tests.0 (uses_there k.scripts x.script x.class tests.1))
-      (le-leb _ 4 (rw (count_of_map (λ (y : ProcessLine). y.processor == x.processor && y.class == x.class) k.processes) (valid.few_processes x.processor x.class)))
+      (le-leb _ 4 (rw (count_of_map (λ (y : ProcessLine). y.processor == x.processor && y.class == x.class) k.processes)
+        (valid.few_processes x.processor x.class (ltb-true x.processor k.processors inside.0) (ltb-true x.class (length k.table) inside.1))))
 
   pub text_processes : list_all (process_ok here) here.processes ≡ true
   text_processes = list_all_to (text_process_ok k) (process_ok here) process_of_text line_ok k.processes valid.processes
