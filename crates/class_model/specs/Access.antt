@@ -80,10 +80,10 @@ given_to all u = find (λ (g : Given). same_seg g.seg u) all
 -- the access is allowed to a subject of class d in a ring
 abbrev pub allowed : Config → List Given → ℕ → ℕ → Access → Bool
 allowed k all d ring x =
-  option_map_or (λ (object : Given).
+    option_map_or (λ (object : Given).
     option_map_or (λ (guard : Given).
-      is_none (verdict (label_of k.table d) ring (label_of k.table object.class) guard.brackets x.rights))
-      (given_to all x.guard) false)
+    is_none (verdict (label_of k.table d) ring (label_of k.table object.class) guard.brackets x.rights))
+    (given_to all x.guard) false)
     (given_to all x.seg) false
 
 -- the accesses of an effect
@@ -97,4 +97,4 @@ ring_of h = option_map_or (λ (p : Process). p.ring) (process_at h.before h.who)
 -- each access of each effect of the run is allowed
 abbrev pub all_allowed : Config → List ProcName → Bool
 all_allowed k names = let run = history (opening k) names in let all = all_given k run in
-  list_all (λ (h : Happened). list_all (allowed k all h.who.class (ring_of h)) (effect_accesses h)) run
+    list_all (λ (h : Happened). list_all (allowed k all h.who.class (ring_of h)) (effect_accesses h)) run

@@ -48,8 +48,12 @@ abbrev pub class_entry : List ℕ → ℕ → ℕ → ℕ → ℕ → ClassEntry
 class_entry name secrecy_level secrecy_cats integrity_level integrity_cats = record {
   name = name;
   label = record {
-    secrecy_level = secrecy_level; secrecy_cats = secrecy_cats;
-    integrity_level = integrity_level; integrity_cats = integrity_cats } }
+    secrecy_level = secrecy_level;
+    secrecy_cats = secrecy_cats;
+    integrity_level = integrity_level;
+    integrity_cats = integrity_cats;
+  };
+}
 
 -- class 0 of all cases
 abbrev pub low : ClassEntry
@@ -78,9 +82,19 @@ process processor class script ring = record { processor = processor; class = cl
 -- classes low and high, each with two frames and two pages, and a console of 100 lines; with these scripts, gates and processes
 abbrev pub two_classes : ℕ → List (Option Script) → List (Option Gate) → List ProcessLine → Config
 two_classes processors scripts gates processes = record {
-  table = low ∷ high ∷ []; pools = pool 2 2 ∷ pool 2 2 ∷ []; volumes = 0 ∷ 0 ∷ []; processors = processors;
-  cycle = 0 ∷ []; rounds = 1; quantum = 1; console = 100; scripts = scripts; gates = gates;
-  processes = processes; records = [] }
+  table = low ∷ high ∷ [];
+  pools = pool 2 2 ∷ pool 2 2 ∷ [];
+  volumes = 0 ∷ 0 ∷ [];
+  processors = processors;
+  cycle = 0 ∷ [];
+  rounds = 1;
+  quantum = 1;
+  console = 100;
+  scripts = scripts;
+  gates = gates;
+  processes = processes;
+  records = [];
+}
 
 -- one process of class 0 on one script
 abbrev pub alone : List Instr → Config
@@ -99,29 +113,33 @@ makes_upgraded = I.Set 4 1 ∷ I.Set 5 511 ∷ I.Set 6 2 ∷ I.Create 2 2 4 5 6 
 -- three classes, the labels of the last two beside each other: class 2 wants to observe a segment of class 1
 unfoldable pub side_by_side : Config
 side_by_side = record
-  (two_classes 2 (script 0 makes_upgraded ∷ script 2 (I.Set 7 1 ∷ I.MakeKnown 2 2 7 ∷ I.Out 0 ∷ I.Halt ∷ []) ∷ []) []
+    (two_classes 2 (script 0 makes_upgraded ∷ script 2 (I.Set 7 1 ∷ I.MakeKnown 2 2 7 ∷ I.Out 0 ∷ I.Halt ∷ []) ∷ []) []
     (process 0 0 0 4 ∷ process 1 2 1 4 ∷ [])) {
-    table = low ∷ class_entry (codes "left") 3 1 15 0 ∷ class_entry (codes "right") 2 2 15 0 ∷ [];
-    pools = pool 2 2 ∷ pool 2 2 ∷ pool 2 2 ∷ []; volumes = 0 ∷ 0 ∷ 0 ∷ [] }
+      table = low ∷ class_entry (codes "left") 3 1 15 0 ∷ class_entry (codes "right") 2 2 15 0 ∷ [];
+      pools = pool 2 2 ∷ pool 2 2 ∷ pool 2 2 ∷ [];
+      volumes = 0 ∷ 0 ∷ 0 ∷ [];
+    }
 
 -- class 1 has class 0's secrecy and a lower integrity: class 0 wants to observe a segment of it
 unfoldable pub less_trusted : Config
 less_trusted = record
-  (alone (I.Set 4 1 ∷ I.Set 5 511 ∷ I.Set 6 2 ∷ I.Create 2 2 4 5 6 ∷ I.Set 7 1 ∷ I.MakeKnown 2 2 7 ∷ I.Out 0 ∷ I.Halt ∷ [])) {
-    table = low ∷ class_entry (codes "high") 0 0 3 0 ∷ [] }
+    (alone (I.Set 4 1 ∷ I.Set 5 511 ∷ I.Set 6 2 ∷ I.Create 2 2 4 5 6 ∷ I.Set 7 1 ∷ I.MakeKnown 2 2 7 ∷ I.Out 0 ∷ I.Halt ∷ [])) {
+      table = low ∷ class_entry (codes "high") 0 0 3 0 ∷ [];
+    }
 
 -- two processes draw ten tickets of the root each and print them
 unfoldable pub ten_tickets_each : Config
 ten_tickets_each =
-  two_classes 2 (script 0 (I.Set 4 10 ∷ I.Ticket 2 ∷ I.Out 1 ∷ I.Set 5 1 ∷ I.Add 3 5 ∷ I.JumpL 3 4 1 ∷ I.Halt ∷ []) ∷ []) []
+    two_classes 2 (script 0 (I.Set 4 10 ∷ I.Ticket 2 ∷ I.Out 1 ∷ I.Set 5 1 ∷ I.Add 3 5 ∷ I.JumpL 3 4 1 ∷ I.Halt ∷ []) ∷ []) []
     (process 0 0 0 4 ∷ process 1 0 0 4 ∷ [])
 
 -- class 0 has one frame, and two segments are swapped in
 unfoldable pub one_frame : Config
 one_frame = record
-  (alone (I.Set 5 511 ∷ I.Set 6 2 ∷ I.Set 3 1 ∷ I.Create 2 2 2 5 6 ∷ I.Create 2 3 2 5 6 ∷ I.Set 7 3 ∷ I.MakeKnown 2 2 7 ∷
+    (alone (I.Set 5 511 ∷ I.Set 6 2 ∷ I.Set 3 1 ∷ I.Create 2 2 2 5 6 ∷ I.Create 2 3 2 5 6 ∷ I.Set 7 3 ∷ I.MakeKnown 2 2 7 ∷
     I.SwapIn 1 ∷ I.MakeKnown 2 3 7 ∷ I.SwapIn 1 ∷ I.Out 0 ∷ I.Halt ∷ [])) {
-    pools = pool 1 2 ∷ pool 2 2 ∷ [] }
+      pools = pool 1 2 ∷ pool 2 2 ∷ [];
+    }
 
 -- 64 segments are made and deleted under a segment of class 1, after one of class 0 was refused there
 unfoldable pub uses_up_serials : Config
@@ -129,24 +147,24 @@ uses_up_serials = two_classes 2 (script 0 makes_upgraded ∷ script 1 (
     I.Set 4 1 ∷ I.Set 5 511 ∷ I.Set 6 2 ∷ I.Set 7 3 ∷ I.MakeKnown 2 2 7 ∷ I.Copy 8 1 ∷ I.Create 8 2 2 5 6 ∷ I.Out 0 ∷ I.Set 11 64 ∷
     I.Create 8 2 4 5 6 ∷ I.Copy 12 0 ∷ I.Delete 8 2 ∷ I.Add 10 4 ∷ I.JumpL 10 11 9 ∷
     I.Create 8 2 4 5 6 ∷ I.Out 0 ∷ I.MakeKnown 8 2 7 ∷ I.Out 0 ∷ I.Halt ∷ []) ∷ []) []
-  (process 0 0 0 4 ∷ process 1 1 1 4 ∷ [])
+    (process 0 0 0 4 ∷ process 1 1 1 4 ∷ [])
 
 -- four processes are begun where three slots are free, and one on a script that isn't there
 unfoldable pub spawns : Config
 spawns = two_classes 1 (
-  script 0 (I.Set 3 9 ∷ I.Spawn 1 3 ∷ I.Spawn 1 3 ∷ I.Spawn 1 3 ∷ I.Spawn 1 3 ∷ I.Out 0 ∷ I.Spawn 7 3 ∷ I.Out 0 ∷ I.Halt ∷ []) ∷
-  script 0 (I.Out 2 ∷ I.Halt ∷ []) ∷ []) [] (process 0 0 0 4 ∷ [])
+    script 0 (I.Set 3 9 ∷ I.Spawn 1 3 ∷ I.Spawn 1 3 ∷ I.Spawn 1 3 ∷ I.Spawn 1 3 ∷ I.Out 0 ∷ I.Spawn 7 3 ∷ I.Out 0 ∷ I.Halt ∷ []) ∷
+    script 0 (I.Out 2 ∷ I.Halt ∷ []) ∷ []) [] (process 0 0 0 4 ∷ [])
 
 -- a return without a call, and a gate whose script calls the gate again and again
 unfoldable pub calls : Config
 calls = two_classes 1 (
-  script 0 (I.Ret ∷ I.Out 0 ∷ I.Call 0 ∷ I.Halt ∷ []) ∷ script 0 (I.Call 0 ∷ I.Out 0 ∷ I.Halt ∷ []) ∷ [])
-  (gate 0 1 (record { r1 = 0; r2 = 7; r3 = 7 }) ∷ []) (process 0 0 0 4 ∷ [])
+    script 0 (I.Ret ∷ I.Out 0 ∷ I.Call 0 ∷ I.Halt ∷ []) ∷ script 0 (I.Call 0 ∷ I.Out 0 ∷ I.Halt ∷ []) ∷ [])
+    (gate 0 1 (record { r1 = 0; r2 = 7; r3 = 7 }) ∷ []) (process 0 0 0 4 ∷ [])
 
 -- a segment is written and swapped out, swapped in from its page and read, written again and swapped out to the same page
 unfoldable pub to_the_page_and_back : Config
 to_the_page_and_back = record
-  (alone (I.Set 5 511 ∷ I.Set 6 2 ∷ I.Create 2 2 2 5 6 ∷ I.Set 7 3 ∷ I.MakeKnown 2 2 7 ∷ I.Copy 8 1 ∷ I.SwapIn 8 ∷
+    (alone (I.Set 5 511 ∷ I.Set 6 2 ∷ I.Create 2 2 2 5 6 ∷ I.Set 7 3 ∷ I.MakeKnown 2 2 7 ∷ I.Copy 8 1 ∷ I.SwapIn 8 ∷
     I.Set 9 7 ∷ I.Put 9 2 ∷ I.Update 8 2 6 2 ∷ I.SwapOut 8 ∷
     I.SwapIn 8 ∷ I.Set 10 8 ∷ I.Fetch 8 2 6 10 ∷ I.Get 11 10 ∷ I.Out 11 ∷
     I.Set 9 9 ∷ I.Put 9 2 ∷ I.Update 8 2 6 2 ∷ I.SwapOut 8 ∷ I.Halt ∷ [])) { volumes = 1 ∷ 1 ∷ [] }
@@ -154,15 +172,16 @@ to_the_page_and_back = record
 -- with one frame and one page: a segment that has both is deleted, and another one takes them
 unfoldable pub deletes_resident : Config
 deletes_resident = record
-  (alone (I.Set 5 511 ∷ I.Set 6 2 ∷ I.Create 2 2 2 5 6 ∷ I.Set 7 3 ∷ I.MakeKnown 2 2 7 ∷ I.Copy 8 1 ∷ I.SwapIn 8 ∷ I.SwapOut 8 ∷
+    (alone (I.Set 5 511 ∷ I.Set 6 2 ∷ I.Create 2 2 2 5 6 ∷ I.Set 7 3 ∷ I.MakeKnown 2 2 7 ∷ I.Copy 8 1 ∷ I.SwapIn 8 ∷ I.SwapOut 8 ∷
     I.SwapIn 8 ∷ I.Delete 2 2 ∷ I.SwapIn 8 ∷ I.Out 0 ∷
     I.Create 2 2 2 5 6 ∷ I.MakeKnown 2 2 7 ∷ I.Copy 8 1 ∷ I.SwapIn 8 ∷ I.SwapOut 8 ∷ I.Out 0 ∷ I.Halt ∷ [])) {
-    pools = pool 1 1 ∷ pool 2 2 ∷ [] }
+      pools = pool 1 1 ∷ pool 2 2 ∷ [];
+    }
 
 -- a segment of class 1 is known for signalling alone, advanced, drawn a ticket of, forgotten, advanced and known again
 unfoldable pub signals_and_forgets : Config
 signals_and_forgets = alone (I.Set 4 1 ∷ I.Set 5 511 ∷ I.Set 6 2 ∷ I.Create 2 2 4 5 6 ∷ I.Set 7 2 ∷ I.MakeKnown 2 2 7 ∷ I.Copy 8 1 ∷
-  I.Advance 8 ∷ I.Ticket 8 ∷ I.Out 0 ∷ I.Terminate 8 ∷ I.Out 0 ∷ I.Advance 8 ∷ I.Out 0 ∷ I.MakeKnown 2 2 7 ∷ I.Out 1 ∷ I.Halt ∷ [])
+    I.Advance 8 ∷ I.Ticket 8 ∷ I.Out 0 ∷ I.Terminate 8 ∷ I.Out 0 ∷ I.Advance 8 ∷ I.Out 0 ∷ I.MakeKnown 2 2 7 ∷ I.Out 1 ∷ I.Halt ∷ [])
 
 -- two lines are printed where the console holds one
 unfoldable pub full_console : Config

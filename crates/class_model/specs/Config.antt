@@ -98,7 +98,8 @@ kept_below class low (Some x) = if low (class x) then Some x else None
 abbrev pub low_shared : ℕ → Shared → Shared
 low_shared c s = record s {
   scripts = map (kept_below (λ (x : Script). x.class) (λ x. flows s x c)) s.scripts;
-  gates = map (kept_below (λ (x : Gate). x.class) (λ x. flows s x c)) s.gates }
+  gates = map (kept_below (λ (x : Gate). x.class) (λ x. flows s x c)) s.gates;
+}
 
 -- A record's entry has the class of its mentor, and its words have its own class.
 abbrev pub low_record : (ℕ → Bool) → SegRecord → Option SegRecord
@@ -110,4 +111,5 @@ low_config c k = let low : ℕ → Bool = λ x. at_or_below k.table x c in recor
   scripts = map (kept_below (λ (x : Script). x.class) low) k.scripts;
   gates = map (kept_below (λ (x : Gate). x.class) low) k.gates;
   processes = filter (λ p. low p.class) k.processes;
-  records = filter_map (low_record low) k.records }
+  records = filter_map (low_record low) k.records;
+}

@@ -29,7 +29,7 @@ after_updates words (x ∷ xs) = after_updates (overwrite words x.0 x.1) xs
 -- the words of u at the opening: those that were kept, or zeros
 abbrev pub first_content : Config → List Happened → SegId → List ℕ
 first_content k run u =
-  unwrap_or (option_and_then (λ (r : SegRecord). r.kept) (find (λ (r : SegRecord). same_seg r.seg u) k.records))
+    unwrap_or (option_and_then (λ (r : SegRecord). r.kept) (find (λ (r : SegRecord). same_seg r.seg u) k.records))
     (replicate (option_map_or (λ (g : Given). g.size) (given_to (all_given k run) u) 0) 0)
 
 -- Content(K, E, u, n): the words of u after its n-th Ok update in E
@@ -83,10 +83,10 @@ looked_at u n (c ∷ classes) past = advances_in c u past + looked_at u n classe
 -- of outs of its class before it.
 abbrev pub ShowsRight : Config → List Happened → ProcName → Option (Request × Outcome) → Type 0
 ShowsRight k past n (Some (Fetch x offset count pad, Words at words)) =
-  words ≡ part_of (after_updates (first_content k past x.seg) (updates_of x.seg past)) offset count
+    words ≡ part_of (after_updates (first_content k past x.seg) (updates_of x.seg past)) offset count
 ShowsRight k past n (Some (Ticket x, Value v)) = v ≡ tickets_in x.seg past
 ShowsRight k past n (Some (Read x wanted t, Counted v)) =
-  (v ≡ looked_at x.seg n (reverse (components k.table x.class)) (reverse past)) × (wanted ≤ v)
+    (v ≡ looked_at x.seg n (reverse (components k.table x.class)) (reverse past)) × (wanted ≤ v)
 ShowsRight k past n (Some (Out value, Printed place v)) = place ≡ outs_in n.class past
 ShowsRight k past n _ = Unit {0}
 

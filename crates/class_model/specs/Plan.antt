@@ -56,10 +56,13 @@ jumped p test to = record p { place = if test then to else p.place + 1 }
 abbrev pub called : Process → Gate → Option ℕ → Process
 called p gate None = refused p RingCall
 called p gate (Some ring) =
-  if nat_le 8 (length p.stack) then refused p StackFull
-  else record (answered p ring) {
-    script = gate.script; place = 0; ring = ring;
-    stack = record { script = p.script; place = p.place + 1; ring = p.ring } ∷ p.stack }
+    if nat_le 8 (length p.stack) then refused p StackFull
+    else record (answered p ring) {
+      script = gate.script;
+      place = 0;
+      ring = ring;
+      stack = record { script = p.script; place = p.place + 1; ring = p.ring } ∷ p.stack;
+    }
 
 -- a call of the gate, if it is there and at or below d
 abbrev pub call : Shared → ℕ → Process → Option Gate → Process
@@ -98,17 +101,17 @@ plan_of s d p I.Ret = Own (returned p p.stack)
 plan_of s d p (I.Spawn n b) = spawned s d p n (reg p b) (slice_index_or s.scripts n None)
 plan_of s d p (I.Terminate a) = Own (forgotten p (reg p a) (known_at p (reg p a)))
 plan_of s d p (I.MakeKnown a b c) =
-  of_known p (usable_at p (reg p a)) (make_known_tests p.ring (reg p b) (reg p c) (is_none (free_known p))) (λ k. MakeKnown k (reg p b) (reg p c))
+    of_known p (usable_at p (reg p a)) (make_known_tests p.ring (reg p b) (reg p c) (is_none (free_known p))) (λ k. MakeKnown k (reg p b) (reg p c))
 plan_of s d p (I.Create a b c x e) =
-  of_known p (usable_at p (reg p a)) (create_tests s.table p.ring (reg p b) (reg p c) (reg p x) (reg p e))
+    of_known p (usable_at p (reg p a)) (create_tests s.table p.ring (reg p b) (reg p c) (reg p x) (reg p e))
     (λ k. Create k (reg p b) (reg p c) (brackets_of (reg p x)) (reg p e))
 plan_of s d p (I.Delete a b) = of_known p (usable_at p (reg p a)) (delete_tests p.ring (reg p b)) (λ k. Delete k (reg p b))
 plan_of s d p (I.SwapIn a) = of_known p (usable_at p (reg p a)) (swap_in_tests p.ring) (λ k. SwapIn k)
 plan_of s d p (I.SwapOut a) = of_known p (usable_at p (reg p a)) (swap_out_tests p.ring) (λ k. SwapOut k)
 plan_of s d p (I.Fetch a b c x) =
-  of_known p (usable_at p (reg p a)) (fetch_tests p.ring (reg p b) (reg p c) (reg p x)) (λ k. Fetch k (reg p b) (reg p c) (reg p x))
+    of_known p (usable_at p (reg p a)) (fetch_tests p.ring (reg p b) (reg p c) (reg p x)) (λ k. Fetch k (reg p b) (reg p c) (reg p x))
 plan_of s d p (I.Update a b c x) =
-  of_known p (usable_at p (reg p a)) (update_tests p.ring (reg p b) (reg p c) (reg p x))
+    of_known p (usable_at p (reg p a)) (update_tests p.ring (reg p b) (reg p c) (reg p x))
     (λ k. Update k (reg p b) (part_of p.pad (reg p x) (reg p c)))
 plan_of s d p (I.Read a) = of_known p (usable_at p (reg p a)) (read_tests p.ring) (λ k. Read k 0 (tally_of p))
 plan_of s d p (I.Await a b) = of_known p (usable_at p (reg p a)) (read_tests p.ring) (λ k. Read k (reg p b) (tally_of p))

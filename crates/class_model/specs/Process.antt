@@ -37,15 +37,26 @@ pub record ProcName : Type 0 where
 -- the root as a process of a class knows it: class 0 may modify it, all may observe it
 abbrev pub root_known : ℕ → Known
 root_known class = record {
-  seg = seg 0 0; class = 0; brackets = record { r1 = 7; r2 = 7; r3 = 7 }; size = 0;
-  rights = if class == 0 then 3 else 1 }
+  seg = seg 0 0;
+  class = 0;
+  brackets = record { r1 = 7; r2 = 7; r3 = 7 };
+  size = 0;
+  rights = if class == 0 then 3 else 1;
+}
 
 -- a process at the begin of a script, with r2 = start
 abbrev pub new_process : ℕ → ℕ → ℕ → ℕ → Process
 new_process class script ring start = record {
-  script = script; place = 0; ring = ring; stack = [];
-  regs = slice_set (replicate 16 0) 2 start; pad = replicate 64 0;
-  known = Some (root_known class) ∷ replicate 15 None; live = true; look = None }
+  script = script;
+  place = 0;
+  ring = ring;
+  stack = [];
+  regs = slice_set (replicate 16 0) 2 start;
+  pad = replicate 64 0;
+  known = Some (root_known class) ∷ replicate 15 None;
+  live = true;
+  look = None;
+}
 
 -- the number in a register
 abbrev pub reg : Process → ℕ → ℕ

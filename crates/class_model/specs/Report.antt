@@ -42,9 +42,9 @@ state_word false = codes "ended"
 -- the two lines of a process
 abbrev pub process_text : SeenProcess → List ℕ
 process_text s =
-  line_of (codes "process" ∷ decimal s.processor ∷ decimal s.slot ∷ state_word s.process.live ∷ codes "script" ∷
+    line_of (codes "process" ∷ decimal s.processor ∷ decimal s.slot ∷ state_word s.process.live ∷ codes "script" ∷
     decimal s.process.script ∷ codes "place" ∷ decimal s.process.place ∷ codes "ring" ∷ decimal s.process.ring ∷ []) ++
-  line_of (codes "regs" ∷ map decimal s.process.regs)
+    line_of (codes "regs" ∷ map decimal s.process.regs)
 
 -- the line of words, if words are shown
 abbrev pub words_text : Option (List ℕ) → List ℕ
@@ -54,14 +54,14 @@ words_text (Some words) = line_of (codes "words" ∷ map decimal words)
 -- the line of an entry
 abbrev pub entry_text : ℕ × Alias → List ℕ
 entry_text (e, a) = line_of (codes "entry" ∷ decimal e ∷ codes "class" ∷ decimal a.class ∷ codes "brackets" ∷
-  decimal a.r1 ∷ decimal a.r2 ∷ decimal a.r3 ∷ codes "size" ∷ decimal a.size ∷ codes "serial" ∷ decimal a.serial ∷ [])
+    decimal a.r1 ∷ decimal a.r2 ∷ decimal a.r3 ∷ codes "size" ∷ decimal a.size ∷ codes "serial" ∷ decimal a.serial ∷ [])
 
 -- the lines of a segment
 abbrev pub segment_text : SeenSegment → List ℕ
 segment_text s =
-  line_of (codes "segment" ∷ decimal s.seg.mentor ∷ decimal s.seg.serial ∷ s.home ∷ codes "writes" ∷ decimal s.writes ∷
+    line_of (codes "segment" ∷ decimal s.seg.mentor ∷ decimal s.seg.serial ∷ s.home ∷ codes "writes" ∷ decimal s.writes ∷
     codes "count" ∷ decimal s.count ∷ codes "tickets" ∷ decimal s.tickets ∷ []) ++
-  words_text s.words ++ flat_map entry_text s.entries
+    words_text s.words ++ flat_map entry_text s.entries
 
 -- a process of the class is live
 abbrev pub some_live : List SeenProcess → Bool
@@ -75,7 +75,7 @@ closing_text false segments = line_of (codes "closed" ∷ []) ++ flat_map segmen
 -- the section of a class
 abbrev pub section_text : Seen → List ℕ
 section_text s =
-  line_of (codes "class" ∷ decimal s.class ∷ s.name ∷ []) ++
-  flat_map (λ v. line_of (codes "line" ∷ decimal v ∷ [])) s.lines ++
-  flat_map process_text s.processes ++
-  closing_text (some_live s.processes) s.segments
+    line_of (codes "class" ∷ decimal s.class ∷ s.name ∷ []) ++
+    flat_map (λ v. line_of (codes "line" ∷ decimal v ∷ [])) s.lines ++
+    flat_map process_text s.processes ++
+    closing_text (some_live s.processes) s.segments

@@ -36,24 +36,34 @@ opening_home (Some words) = Stored
 -- a cell at the opening: what the records say, else blank
 abbrev pub opening_cell : Config → ℕ → SegId → Cell
 opening_cell k c u = record {
-  home = opening_home (kept_of k c u); stored = kept_of k c u; writes = 0; sequencer = 0;
-  entries = map (opening_entry k c u) (below 8) }
+  home = opening_home (kept_of k c u);
+  stored = kept_of k c u;
+  writes = 0;
+  sequencer = 0;
+  entries = map (opening_entry k c u) (below 8);
+}
 
 -- one more than the greatest serial under mentors of class c, the root's among them, or 0
 abbrev pub opening_serial : Config → ℕ → ℕ
 opening_serial k c =
-  fold (λ n (r : SegRecord). if r.seg.mentor == c then max n (r.seg.serial + 1) else n) (if c == 0 then 1 else 0) k.records
+    fold (λ n (r : SegRecord). if r.seg.mentor == c then max n (r.seg.serial + 1) else n) (if c == 0 then 1 else 0) k.records
 
 -- the processes of a processor and class, in the order of their lines
 abbrev pub opening_slots : Config → ℕ → ℕ → List (Option Process)
 opening_slots k c p =
-  let lines = filter (λ (l : ProcessLine). l.processor == p && l.class == c) k.processes in
-  map (λ i. option_map (λ (l : ProcessLine). new_process c l.script l.ring 0) (slice_get lines i)) (below 4)
+    let lines = filter (λ (l : ProcessLine). l.processor == p && l.class == c) k.processes in
+    map (λ i. option_map (λ (l : ProcessLine). new_process c l.script l.ring 0) (slice_get lines i)) (below 4)
 
 -- the part of class c at the opening
 abbrev pub opening_part : Config → ℕ → Part
 opening_part k c = record {
-  cell = opening_cell k c; component = λ x u. 0; next_serial = opening_serial k c; lines = []; used = 0; slots = opening_slots k c }
+  cell = opening_cell k c;
+  component = λ x u. 0;
+  next_serial = opening_serial k c;
+  lines = [];
+  used = 0;
+  slots = opening_slots k c;
+}
 
 -- the opening state of a configuration
 abbrev pub opening : Config → State

@@ -14,7 +14,7 @@ use Rattle.class_model.specs.Report.{Seen, SeenProcess, SeenSegment, section_tex
 -- the processes that there are among the slots of a processor
 abbrev pub seen_slots : ℕ → List (Option Process) → List SeenProcess
 seen_slots processor slots =
-  filter_map (λ (item : ℕ × Option Process). option_map (λ (p : Process). record { processor = processor; slot = item.0; process = p }) item.1)
+    filter_map (λ (item : ℕ × Option Process). option_map (λ (p : Process). record { processor = processor; slot = item.0; process = p }) item.1)
     (enumerate_from 0 slots)
 
 -- at most four processors
@@ -42,30 +42,40 @@ shown_words _ stored = None
 -- a cell that has been touched, with its eventcount
 abbrev pub is_touched : Cell → ℕ → Bool
 is_touched cell count =
-  not (never cell.home) || nat_lt 0 cell.writes || nat_lt 0 count || nat_lt 0 cell.sequencer || has_entry cell
+    not (never cell.home) || nat_lt 0 cell.writes || nat_lt 0 count || nat_lt 0 cell.sequencer || has_entry cell
 
 -- the entries that aren't empty, by number
 abbrev pub seen_entries : List (Option Alias) → List (ℕ × Alias)
 seen_entries entries =
-  filter_map (λ (item : ℕ × Option Alias). option_map (λ (a : Alias). (item.0, a)) item.1) (enumerate_from 0 entries)
+    filter_map (λ (item : ℕ × Option Alias). option_map (λ (a : Alias). (item.0, a)) item.1) (enumerate_from 0 entries)
 
 -- what is seen of a cell
 abbrev pub seen_segment : SegId → Cell → ℕ → SeenSegment
 seen_segment u cell count = record {
-  seg = u; home = home_name cell.home; writes = cell.writes; count = count; tickets = cell.sequencer;
-  words = shown_words cell.home cell.stored; entries = seen_entries cell.entries }
+  seg = u;
+  home = home_name cell.home;
+  writes = cell.writes;
+  count = count;
+  tickets = cell.sequencer;
+  words = shown_words cell.home cell.stored;
+  entries = seen_entries cell.entries;
+}
 
 -- the touched segments of class c
 abbrev pub seen_segments : State → ℕ → List SeenSegment
 seen_segments a c =
-  map (λ u. seen_segment u (cell_at a c u) (eventcount a c u))
+    map (λ u. seen_segment u (cell_at a c u) (eventcount a c u))
     (filter (λ u. is_touched (cell_at a c u) (eventcount a c u)) (identities (classes a.shared)))
 
 -- what is seen of class c
 abbrev pub seen : ℕ → State → Seen
 seen c a = record {
-  class = c; name = (class_at a.shared.table c).name; lines = (a.part c).lines;
-  processes = seen_processes (a.part c).slots; segments = seen_segments a c }
+  class = c;
+  name = (class_at a.shared.table c).name;
+  lines = (a.part c).lines;
+  processes = seen_processes (a.part c).slots;
+  segments = seen_segments a c;
+}
 
 -- SectionA(c, state)
 abbrev pub section : ℕ → State → List ℕ

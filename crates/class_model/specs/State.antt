@@ -124,7 +124,7 @@ with_component part x u v = record part { component = put part.component x (put_
 -- the part with the process of a slot changed
 abbrev pub with_process : Part → ℕ → ℕ → Process → Part
 with_process part processor slot p =
-  record part { slots = put part.slots processor (slice_set (part.slots processor) slot (Some p)) }
+    record part { slots = put part.slots processor (slice_set (part.slots processor) slot (Some p)) }
 
 -- the state with the part of a class changed
 abbrev pub with_part : State → ℕ → Part → State

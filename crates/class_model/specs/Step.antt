@@ -37,12 +37,14 @@ with_entry cell e entry = record cell { entries = slice_set cell.entries e entry
 -- create: the entry takes the new segment, and the next serial rises
 abbrev pub create_effect : Part → SegId → ℕ → ℕ → Brackets → ℕ → Effect
 create_effect part u e class b size = let cell = part.cell u in
-  unless part (
+    unless part (
     (is_deleted cell ⇒ Gone) ∷ (is_some (entry_at cell e) ⇒ EntryTaken) ∷ (nat_le 64 part.next_serial ⇒ SerialsUsed) ∷ [])
     (record {
       part = record (with_cell part u (with_entry cell e (Some (new_alias class b size part.next_serial)))) {
-        next_serial = part.next_serial + 1 };
-      outcome = Value part.next_serial })
+        next_serial = part.next_serial + 1;
+      };
+      outcome = Value part.next_serial;
+    })
 
 -- the part with a cell Deleted, its live and stored words lost
 abbrev pub deleted : Part → SegId → Part
@@ -56,71 +58,76 @@ emptied part u e = with_cell part u (with_entry (part.cell u) e None)
 abbrev pub delete_effect : ℕ → Part → SegId → ℕ → Option Alias → Effect
 delete_effect d part u e None = record { part = part; outcome = Refused NoEntry }
 delete_effect d part u e (Some a) = let child : SegId = seg d a.serial in
-  unless part ((a.class == d && has_entry (part.cell child) ⇒ NotEmpty) ∷ [])
+    unless part ((a.class == d && has_entry (part.cell child) ⇒ NotEmpty) ∷ [])
     (record { part = emptied (if a.class == d then deleted part child else part) u e; outcome = Value 0 })
 
 -- swap in: the live words are the stored words, or zeros
 abbrev pub swap_in_effect : Shared → ℕ → Part → Known → Effect
 swap_in_effect s d part k = let cell = part.cell k.seg in
-  unless part (
+    unless part (
     (is_deleted cell ⇒ Gone) ∷ (is_in cell ⇒ AlreadyIn) ∷
     (nat_le (pool_of s d).frames (frames_in_use s part) ⇒ NoFrame) ∷ [])
     (record {
       part = with_cell part k.seg (record cell { home = In (unwrap_or cell.stored (replicate k.size 0)) });
-      outcome = Value 0 })
+      outcome = Value 0;
+    })
 
 -- swap out: the stored words are the live words
 abbrev pub swap_out_effect : Shared → ℕ → Part → Known → Effect
 swap_out_effect s d part k = let cell = part.cell k.seg in
-  unless part (
+    unless part (
     (is_deleted cell ⇒ Gone) ∷ (not (is_in cell) ⇒ NotIn) ∷
     (is_none cell.stored && nat_le (pool_of s d).pages (pages_in_use s part) ⇒ NoPage) ∷ [])
     (record {
       part = with_cell part k.seg (record cell { home = Stored; stored = Some (live_words cell) });
-      outcome = Value 0 })
+      outcome = Value 0;
+    })
 
 -- fetch: words of the live words
 abbrev pub fetch_effect : Part → Cell → ℕ → ℕ → ℕ → Effect
 fetch_effect part cell offset count pad =
-  unless part ((is_deleted cell ⇒ Gone) ∷ (not (is_in cell) ⇒ NotIn) ∷ [])
+    unless part ((is_deleted cell ⇒ Gone) ∷ (not (is_in cell) ⇒ NotIn) ∷ [])
     (record { part = part; outcome = Words pad (part_of (live_words cell) offset count) })
 
 -- update: words over the live words, and the count of writes rises
 abbrev pub update_effect : Part → SegId → ℕ → List ℕ → Effect
 update_effect part u offset words = let cell = part.cell u in
-  unless part ((is_deleted cell ⇒ Gone) ∷ (not (is_in cell) ⇒ NotIn) ∷ [])
+    unless part ((is_deleted cell ⇒ Gone) ∷ (not (is_in cell) ⇒ NotIn) ∷ [])
     (record {
       part = with_cell part u (record cell {
-        home = In (overwrite (live_words cell) offset words); writes = cell.writes + 1 });
-      outcome = Value (cell.writes + 1) })
+        home = In (overwrite (live_words cell) offset words);
+        writes = cell.writes + 1;
+      });
+      outcome = Value (cell.writes + 1);
+    })
 
 -- advance: the class's own component of the eventcount of the cell of class x rises
 abbrev pub advance_effect : Part → ℕ → SegId → Effect
 advance_effect part x u =
-  record { part = with_component part x u (part.component x u + 1); outcome = Value (part.component x u + 1) }
+    record { part = with_component part x u (part.component x u + 1); outcome = Value (part.component x u + 1) }
 
 -- ticket: the sequencer rises, and the old number is shown
 abbrev pub ticket_effect : Part → SegId → Effect
 ticket_effect part u = let cell = part.cell u in
-  record { part = with_cell part u (record cell { sequencer = cell.sequencer + 1 }); outcome = Value cell.sequencer }
+    record { part = with_cell part u (record cell { sequencer = cell.sequencer + 1 }); outcome = Value cell.sequencer }
 
 -- out: a place is used up even where the console is full
 abbrev pub out_effect : Shared → Part → ℕ → Effect
 out_effect s part value =
-  if nat_lt part.used s.console
-  then record { part = record part { lines = part.lines ++ value ∷ []; used = part.used + 1 }; outcome = Printed part.used value }
-  else record { part = record part { used = part.used + 1 }; outcome = Refused ConsoleFull }
+    if nat_lt part.used s.console
+    then record { part = record part { lines = part.lines ++ value ∷ []; used = part.used + 1 }; outcome = Printed part.used value }
+    else record { part = record part { used = part.used + 1 }; outcome = Refused ConsoleFull }
 
 -- one look: the next component, in class order
 abbrev pub read_effect : State → Part → Known → ℕ → Tally → Effect
 read_effect a part k wanted t = let classes = components a.shared.table k.class in
-  record { part = part; outcome = tallied (length classes) wanted t (component_at a (slice_index classes t.seen) k.class k.seg) }
+    record { part = part; outcome = tallied (length classes) wanted t (component_at a (slice_index classes t.seen) k.class k.seg) }
 
 -- What the request of a process of class d in a ring does. What it changes is of class d; what it only observes is
 -- of classes at or below that of its known segment.
 abbrev pub effect : State → ℕ → ℕ → Request → Effect
 effect a d ring (MakeKnown k e mode) =
-  record { part = a.part d; outcome = shown a.shared.table d ring k.class mode (entry_at (cell_of a k) e) }
+    record { part = a.part d; outcome = shown a.shared.table d ring k.class mode (entry_at (cell_of a k) e) }
 effect a d ring (Create k e class brackets size) = create_effect (a.part d) k.seg e class brackets size
 effect a d ring (Delete k e) = delete_effect d (a.part d) k.seg e (entry_at ((a.part d).cell k.seg) e)
 effect a d ring (SwapIn k) = swap_in_effect a.shared d (a.part d) k
@@ -145,13 +152,15 @@ begun part n p child (Some slot) = with_process (with_process part n.processor n
 -- the deed of a request: its effect, and the process settled
 abbrev pub asked : ProcName → Process → Request → Effect → Deed
 asked n p request e = record {
-  part = with_process e.part n.processor n.slot (settled p e.outcome); asked = Some (request, e.outcome) }
+  part = with_process e.part n.processor n.slot (settled p e.outcome);
+  asked = Some (request, e.outcome);
+}
 
 -- the deed of a plan
 abbrev pub deed_of : State → ProcName → Process → Plan → Deed
 deed_of a n p (Own after) = record { part = with_process (a.part n.class) n.processor n.slot after; asked = None }
 deed_of a n p (Begin child) = let part = a.part n.class in
-  record { part = begun part n p child (position (λ q. is_none q) (part.slots n.processor)); asked = None }
+    record { part = begun part n p child (position (λ q. is_none q) (part.slots n.processor)); asked = None }
 deed_of a n p (Ask request) = asked n p request (effect a n.class p.ring request)
 
 -- the deed of a process, if there is one and it is live

@@ -36,7 +36,7 @@ all_distinct (c ∷ cs) = list_all (λ (x : ClassEntry). not (same_numbers x.nam
 -- 1 to 16 classes with different names and labels, each label dominating that of class 0
 abbrev pub table_ok : List ClassEntry → Bool
 table_ok table = within 1 16 (length table) && list_all (λ (x : ClassEntry). label_in_range x.label) table &&
-  all_distinct table && list_all (λ c. at_or_below table 0 c) (below (length table))
+    all_distinct table && list_all (λ c. at_or_below table 0 c) (below (length table))
 
 -- an empty place is in order
 abbrev pub at_place : {X : Type 0} → (X → Bool) → Option X → Bool
@@ -58,7 +58,7 @@ gate_ok k x = nat_lt x.class (length k.table) && uses_script k x.class x.script 
 -- likewise of a process, which is one of at most four of its processor and class
 abbrev pub process_ok : Config → ProcessLine → Bool
 process_ok k x = nat_lt x.processor k.processors && nat_lt x.class (length k.table) && nat_le x.ring 7 && uses_script k x.class x.script &&
-  nat_le (count_by (λ (y : ProcessLine). y.processor == x.processor && y.class == x.class) k.processes) 4
+    nat_le (count_by (λ (y : ProcessLine). y.processor == x.processor && y.class == x.class) k.processes) 4
 
 -- the identity of the root
 abbrev pub is_root : SegId → Bool
@@ -71,26 +71,26 @@ first_record records u = find (λ (r : SegRecord). same_seg r.seg u) records
 -- the mentor is the root, or a record whose class is that of the identity
 abbrev pub mentor_ok : Config → SegRecord → Bool
 mentor_ok k r =
-  if is_root r.mentor then r.seg.mentor == 0
-  else option_map_or (λ (x : SegRecord). x.class == r.seg.mentor) (first_record k.records r.mentor) false
+    if is_root r.mentor then r.seg.mentor == 0
+    else option_map_or (λ (x : SegRecord). x.class == r.seg.mentor) (first_record k.records r.mentor) false
 
 -- What a record must be: its class has a volume; its identity is another than the root's; the classes of mentor's mentor, mentor
 -- and record rise in this order, and a mentor under the same class has a smaller serial; kept words are as many as the size.
 abbrev pub record_ok : Config → SegRecord → Bool
 record_ok k r =
-  not (slice_index k.volumes r.class == 0) && nat_lt r.seg.mentor (length k.table) && nat_lt r.seg.serial 64 && not (is_root r.seg) && nat_lt r.class (length k.table) &&
-  nat_lt r.mentor.mentor (length k.table) &&
-  at_or_below k.table r.seg.mentor r.class && in_order r.brackets && within 1 64 r.size && nat_lt r.mentor.serial 64 &&
-  nat_lt r.entry 8 && at_or_below k.table r.mentor.mentor r.seg.mentor &&
-  (not (r.mentor.mentor == r.seg.mentor) || nat_lt r.mentor.serial r.seg.serial) &&
-  option_map_or (λ (words : List ℕ). length words == r.size) r.kept true && mentor_ok k r
+    not (slice_index k.volumes r.class == 0) && nat_lt r.seg.mentor (length k.table) && nat_lt r.seg.serial 64 && not (is_root r.seg) && nat_lt r.class (length k.table) &&
+    nat_lt r.mentor.mentor (length k.table) &&
+    at_or_below k.table r.seg.mentor r.class && in_order r.brackets && within 1 64 r.size && nat_lt r.mentor.serial 64 &&
+    nat_lt r.entry 8 && at_or_below k.table r.mentor.mentor r.seg.mentor &&
+    (not (r.mentor.mentor == r.seg.mentor) || nat_lt r.mentor.serial r.seg.serial) &&
+    option_map_or (λ (words : List ℕ). length words == r.size) r.kept true && mentor_ok k r
 
 -- no later record has the identity of an earlier one, or its mentor and entry
 abbrev pub records_distinct : List SegRecord → Bool
 records_distinct [] = true
 records_distinct (r ∷ rs) =
-  list_all (λ (x : SegRecord). not (same_seg x.seg r.seg) && not (same_seg x.mentor r.mentor && x.seg.mentor == r.seg.mentor && x.entry == r.entry)) rs &&
-  records_distinct rs
+    list_all (λ (x : SegRecord). not (same_seg x.seg r.seg) && not (same_seg x.mentor r.mentor && x.seg.mentor == r.seg.mentor && x.entry == r.entry)) rs &&
+    records_distinct rs
 
 -- a class has no more kept records than pages
 abbrev pub pages_ok : Config → ℕ → Bool

@@ -43,9 +43,10 @@ scripts_ok k (s ∷ ss) e =
     let b = and_parts (is_class k s.class) (program_ok s.program && list_all (λ i. is_narrow_instr i && instr_ok i) s.program) a.0 in
     let c = and_parts (program_ok s.program) (list_all (λ i. is_narrow_instr i && instr_ok i) s.program) b.1 in
     let d = both_hold is_narrow_instr instr_ok s.program c.1 in
-    let more = scripts_ok k ss a.1 in
-    (and_from (script_ok k s) (list_all (script_ok k) ss) (and_from (is_class k s.class && program_ok s.program) (list_all instr_ok s.program) (and_from (is_class k s.class) (program_ok s.program) b.0 c.0) d.1) more.0,
-     and_from (is_narrow_script s) (list_all is_narrow_script ss) d.0 more.1)
+    let more = scripts_ok k ss a.1 in (
+      and_from (script_ok k s) (list_all (script_ok k) ss) (and_from (is_class k s.class && program_ok s.program) (list_all instr_ok s.program) (and_from (is_class k s.class) (program_ok s.program) b.0 c.0) d.1) more.0,
+      and_from (is_narrow_script s) (list_all is_narrow_script ss) d.0 more.1,
+    )
 
 scripts_fine : (k : Config) (ss : List Script) → list_all (script_ok k) ss ≡ true → list_all is_narrow_script ss ≡ true → list_all (is_fine_script (length k.table)) ss ≡ true
 scripts_fine k [] ok narrow = refl
@@ -55,9 +56,9 @@ scripts_fine k (s ∷ ss) ok narrow =
     let c = and_parts (is_class k s.class) (program_ok s.program) b.0 in
     let n = and_parts (is_narrow_script s) (list_all is_narrow_script ss) narrow in
     and_from (is_fine_script (length k.table) s) (list_all (is_fine_script (length k.table)) ss)
-      (and_from (is_class k s.class) (program_ok s.program && list_all (λ i. is_narrow_instr i && instr_ok i) s.program) c.0
-        (and_from (program_ok s.program) (list_all (λ i. is_narrow_instr i && instr_ok i) s.program) c.1 (hold_both is_narrow_instr instr_ok s.program n.0 b.1)))
-      (scripts_fine k ss a.1 n.1)
+    (and_from (is_class k s.class) (program_ok s.program && list_all (λ i. is_narrow_instr i && instr_ok i) s.program) c.0
+    (and_from (program_ok s.program) (list_all (λ i. is_narrow_instr i && instr_ok i) s.program) c.1 (hold_both is_narrow_instr instr_ok s.program n.0 b.1)))
+    (scripts_fine k ss a.1 n.1)
 
 -- ---- processes and events
 
@@ -73,7 +74,7 @@ fewer : (p c : ℕ) (ps : List ProcessLine) → count_by (λ (x : ProcessLine). 
 fewer p c [] = omega arith
 fewer p c (x ∷ ps) =
     rw (sum_by-cons (λ (y : ProcessLine). cond (eqb y.processor p && eqb y.class c) 1 0) x ps, sum_by-cons (λ (y : ProcessLine). cond (eqb y.class c) 1 0) x ps)
-       (omega (arith, fewer p c ps, fewer_here (eqb x.processor p) (eqb x.class c)))
+    (omega (arith, fewer p c ps, fewer_here (eqb x.processor p) (eqb x.class c)))
 
 same_events : (k : Config) (is : List Item) → list_all is_narrow_item is ≡ true → sum_by (events_of k) is ≡ sum_by event_count is
 same_events k [] e = refl
@@ -92,8 +93,8 @@ no_volumes k = list_all (λ (p : Pool). eqb p.volume 0) k.pools
 -- what the tests say
 abbrev pub checks : Config → Bool → Bool → Bool → List Bool
 checks k names events each =
-  names ∷ pools_ok k ∷ header_ok k ∷ cycle_ok k ∷ leb (length k.scripts) 32 ∷ list_all (is_fine_script (length k.table)) k.scripts ∷
-  list_all (process_ok k) k.processes ∷ narrow_items k ∷ events ∷ eqb k.processors 1 ∷ no_volumes k ∷ each ∷ []
+    names ∷ pools_ok k ∷ header_ok k ∷ cycle_ok k ∷ leb (length k.scripts) 32 ∷ list_all (is_fine_script (length k.table)) k.scripts ∷
+    list_all (process_ok k) k.processes ∷ narrow_items k ∷ events ∷ eqb k.processors 1 ∷ no_volumes k ∷ each ∷ []
 
 abbrev HasNames : Config → Type 0
 HasNames k = (c : ℕ) → c < length k.table → is_name (class_at k.table c).name ≡ true
@@ -121,13 +122,24 @@ checked k names events each has_names has_few has_each table gates e =
     let c12 = and_parts each true c11.1 in
     let scripts = scripts_ok k k.scripts c6.0 in
     let items = both_hold is_narrow_item (item_ok k) k.schedule c8.0 in
-    let one = has_each.0 c12.0 in
-    (record {
-       table = table; names = has_names.0 c1.0; pools = c2.0; header = c3.0; cycle = c4.0; few_scripts = leb-true _ _ c5.0; scripts = scripts.0;
-       few_gates = subst (λ gs. length gs ≤ 32) (sym gates) (omega arith); gates = no_gates_ok k gates; processes = c7.0;
-       few_processes = λ p c low in_table. omega (arith, fewer p c k.processes, one c in_table);
-       items = items.1; few_events = subst (λ n. n ≤ max_events) (sym (same_events k k.schedule items.0)) (has_few.0 c9.0) },
-     record { processor = eqb-true _ _ c10.0; volumes = c11.0; gates = gates; instructions = scripts.1; processes = one; items = items.0 })
+    let one = has_each.0 c12.0 in (
+      record {
+        table = table;
+        names = has_names.0 c1.0;
+        pools = c2.0;
+        header = c3.0;
+        cycle = c4.0;
+        few_scripts = leb-true _ _ c5.0;
+        scripts = scripts.0;
+        few_gates = subst (λ gs. length gs ≤ 32) (sym gates) (omega arith);
+        gates = no_gates_ok k gates;
+        processes = c7.0;
+        few_processes = λ p c low in_table. omega (arith, fewer p c k.processes, one c in_table);
+        items = items.1;
+        few_events = subst (λ n. n ≤ max_events) (sym (same_events k k.schedule items.0)) (has_few.0 c9.0);
+      },
+      record { processor = eqb-true _ _ c10.0; volumes = c11.0; gates = gates; instructions = scripts.1; processes = one; items = items.0 },
+    )
 
 pub checks_hold : (k : Config) (names events each : Bool) → (IsTrue names ↔ HasNames k) → (IsTrue events ↔ (sum_by event_count k.schedule ≤ max_events)) → (IsTrue each ↔ HasOneOfEach k) →
     IsValid k × IsNarrow k → list_all (λ b. b) (checks k names events each) ≡ true
@@ -140,5 +152,5 @@ checks_hold k names events each has_names has_few has_each (v, n) =
     let g : narrow_items k ≡ true = hold_both is_narrow_item (item_ok k) k.schedule n.items v.items in
     let h : eqb k.processors 1 ≡ true = eq-eqb _ _ n.processor in
     and_from names _ a (and_from (pools_ok k) _ v.pools (and_from (header_ok k) _ v.header (and_from (cycle_ok k) _ v.cycle (and_from (leb (length k.scripts) 32) _ d
-      (and_from (list_all (is_fine_script (length k.table)) k.scripts) _ f (and_from (list_all (process_ok k) k.processes) _ v.processes (and_from (narrow_items k) _ g
-        (and_from events _ b (and_from (eqb k.processors 1) _ h (and_from (no_volumes k) _ n.volumes (and_from each true c refl)))))))))))
+    (and_from (list_all (is_fine_script (length k.table)) k.scripts) _ f (and_from (list_all (process_ok k) k.processes) _ v.processes (and_from (narrow_items k) _ g
+    (and_from events _ b (and_from (eqb k.processors 1) _ h (and_from (no_volumes k) _ n.volumes (and_from each true c refl)))))))))))

@@ -52,7 +52,7 @@ pub spelled_steps : (text : List ℕ) (k : Config) → SpellsNarrow text k → s
 spelled_steps text k spells =
     let fits = all_fits k spells.valid spells.narrow in
     let again : map words_of (map line_text (config_lines k)) ≡ texts_of (config_lines k) =
-      ap (map words_of) (sym (spaced_texts (config_lines k))) ∙ words_again (texts_of (config_lines k)) (fine_lines (config_lines k) (config_fine k fits)) in
+    ap (map words_of) (sym (spaced_texts (config_lines k))) ∙ words_again (texts_of (config_lines k)) (fine_lines (config_lines k) (config_fine k fits)) in
     ap (λ (ls : List Text). steps start (map words_of ls)) spells.lines_are ∙ ap (steps start) again ∙ all_taken k fits
 
 with_gates : (k : Config) → k.gates ≡ [] → config_in (place_at_end k) ≡ k

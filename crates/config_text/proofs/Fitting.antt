@@ -38,9 +38,10 @@ classes_fit [] (p ∷ ps) same named labelled ok = absurd (omega (arith, same))
 classes_fit (c ∷ cs) [] same named labelled ok = absurd (omega (arith, same))
 classes_fit (c ∷ cs) (p ∷ ps) same named labelled ok =
     let both = and_parts (pool_ok p) (list_all pool_ok ps) ok in
-    let pool = pool_fits p both.0 in
-    (record { named = named 0 (omega arith); label = labelled 0 (omega arith); frames = omega (arith, pool.0); pages = omega (arith, pool.1); volume = omega (arith, pool.2) },
-     classes_fit cs ps (omega (arith, same)) (λ i lt. named (suc i) (omega (arith, lt))) (λ i lt. labelled (suc i) (omega (arith, lt))) both.1)
+    let pool = pool_fits p both.0 in (
+      record { named = named 0 (omega arith); label = labelled 0 (omega arith); frames = omega (arith, pool.0); pages = omega (arith, pool.1); volume = omega (arith, pool.2) },
+      classes_fit cs ps (omega (arith, same)) (λ i lt. named (suc i) (omega (arith, lt))) (λ i lt. labelled (suc i) (omega (arith, lt))) both.1,
+    )
 
 below_256 : (n : ℕ) (cs : List ℕ) → n ≤ 16 → list_all (λ c. ltb c n) cs ≡ true → AllByRecursion (λ c. c < 256) cs
 below_256 n [] few ok = tt
@@ -123,20 +124,47 @@ classes_fine [] [] fit = tt
 classes_fine [] (p ∷ ps) fit = absurd fit
 classes_fine (c ∷ cs) [] fit = absurd fit
 classes_fine (c ∷ cs) (p ∷ ps) fit =
-    let f = fit.0 in
-    ((omega arith, (fixed_word (codes "class") (omega arith) refl, (name_word c.name f.named, (f.label, (fixed_word (codes "frames") (omega arith) refl, (omega (arith, f.frames),
-      (fixed_word (codes "pages") (omega arith) refl, (omega (arith, f.pages), (fixed_word (codes "volume") (omega arith) refl, (omega (arith, f.volume), tt)))))))))), classes_fine cs ps fit.1)
+    let f = fit.0 in (
+      (
+        omega arith,
+        (
+          fixed_word (codes "class") (omega arith) refl,
+          (
+            name_word c.name f.named,
+            (
+              f.label,
+              (
+                fixed_word (codes "frames") (omega arith) refl,
+                (
+                  omega (arith, f.frames),
+                  (fixed_word (codes "pages") (omega arith) refl, (omega (arith, f.pages), (fixed_word (codes "volume") (omega arith) refl, (omega (arith, f.volume), tt)))),
+                ),
+              ),
+            ),
+          ),
+        ),
+      ),
+      classes_fine cs ps fit.1,
+    )
 
 front_fine : (k : Config) → AllFits k → AreFine (front_lines k)
 front_fine k fits =
-    fine_append (header_lines k) (number_lines k)
-      ((omega arith, (fixed_word (codes "gemkernel") (omega arith) refl, (fixed_word (codes "1") (omega arith) refl, tt))),
-       (number_line_fine (codes "classes") (length k.table) (fixed_word (codes "classes") (omega arith) refl) (omega (arith, fits.few)), classes_fine k.table k.pools fits.classes))
-      (number_line_fine (codes "processors") k.processors (fixed_word (codes "processors") (omega arith) refl) (omega (arith, fits.header.processors)),
-       ((omega arith, (fixed_word (codes "cycle") (omega arith) refl, numbers_fine k.cycle fits.header.cycle)),
-        (number_line_fine (codes "rounds") k.rounds (fixed_word (codes "rounds") (omega arith) refl) (omega (arith, fits.header.rounds)),
-         (number_line_fine (codes "quantum") k.quantum (fixed_word (codes "quantum") (omega arith) refl) (omega (arith, fits.header.quantum)),
-          (number_line_fine (codes "console") k.console (fixed_word (codes "console") (omega arith) refl) (omega (arith, fits.header.console)), tt)))))
+    fine_append (header_lines k) (number_lines k) (
+      (omega arith, (fixed_word (codes "gemkernel") (omega arith) refl, (fixed_word (codes "1") (omega arith) refl, tt))),
+      (number_line_fine (codes "classes") (length k.table) (fixed_word (codes "classes") (omega arith) refl) (omega (arith, fits.few)), classes_fine k.table k.pools fits.classes),
+    ) (
+      number_line_fine (codes "processors") k.processors (fixed_word (codes "processors") (omega arith) refl) (omega (arith, fits.header.processors)),
+      (
+        (omega arith, (fixed_word (codes "cycle") (omega arith) refl, numbers_fine k.cycle fits.header.cycle)),
+        (
+          number_line_fine (codes "rounds") k.rounds (fixed_word (codes "rounds") (omega arith) refl) (omega (arith, fits.header.rounds)),
+          (
+            number_line_fine (codes "quantum") k.quantum (fixed_word (codes "quantum") (omega arith) refl) (omega (arith, fits.header.quantum)),
+            (number_line_fine (codes "console") k.console (fixed_word (codes "console") (omega arith) refl) (omega (arith, fits.header.console)), tt),
+          ),
+        ),
+      ),
+    )
 
 instr_fine : (i : Instr) → is_narrow_instr i ≡ true → instr_ok i ≡ true → IsFineLine (instr_line i)
 instr_fine I.Halt narrow ok = (omega arith, (fixed_word (codes "halt") (omega arith) refl, tt))
@@ -181,10 +209,11 @@ end_fine = ((omega arith, (fixed_word (codes "end") (omega arith) refl, tt)), tt
 scripts_fine : (ss : List Script) → AllByRecursion ScriptFits ss → AreFine (flat_map script_lines ss)
 scripts_fine [] fit = tt
 scripts_fine (s ∷ ss) fit =
-    fine_append (script_lines s) (flat_map script_lines ss)
-      (number_line_fine (codes "script") s.class (fixed_word (codes "script") (omega arith) refl) (omega (arith, fit.0.class)),
-       fine_append (map instr_line s.program) (end_line ∷ []) (instrs_fine s.program fit.0.narrow fit.0.ranges) end_fine)
-      (scripts_fine ss fit.1)
+    fine_append (script_lines s) (flat_map script_lines ss) (
+      number_line_fine (codes "script") s.class (fixed_word (codes "script") (omega arith) refl) (omega (arith, fit.0.class)),
+      fine_append (map instr_line s.program) (end_line ∷ []) (instrs_fine s.program fit.0.narrow fit.0.ranges) end_fine,
+    )
+    (scripts_fine ss fit.1)
 
 processes_fine : (ps : List ProcessLine) → AllByRecursion ProcessFits ps → AreFine (map process_line ps)
 processes_fine [] fit = tt
@@ -206,7 +235,7 @@ gates_fine (g ∷ gs) e = absurd cc
 pub config_fine : (k : Config) → AllFits k → AreFine (config_lines k)
 config_fine k fits =
     fine_append (front_lines k) (flat_map script_lines k.scripts ++ (map gate_line k.gates ++ (map process_line k.processes ++ (map item_line k.schedule ++ end_line ∷ [])))) (front_fine k fits)
-      (fine_append (flat_map script_lines k.scripts) (map gate_line k.gates ++ (map process_line k.processes ++ (map item_line k.schedule ++ end_line ∷ []))) (scripts_fine k.scripts fits.scripts)
-        (fine_append (map gate_line k.gates) (map process_line k.processes ++ (map item_line k.schedule ++ end_line ∷ [])) (gates_fine k.gates fits.gates)
-          (fine_append (map process_line k.processes) (map item_line k.schedule ++ end_line ∷ []) (processes_fine k.processes fits.processes)
-            (fine_append (map item_line k.schedule) (end_line ∷ []) (items_fine k.schedule fits.items) end_fine))))
+    (fine_append (flat_map script_lines k.scripts) (map gate_line k.gates ++ (map process_line k.processes ++ (map item_line k.schedule ++ end_line ∷ []))) (scripts_fine k.scripts fits.scripts)
+    (fine_append (map gate_line k.gates) (map process_line k.processes ++ (map item_line k.schedule ++ end_line ∷ [])) (gates_fine k.gates fits.gates)
+    (fine_append (map process_line k.processes) (map item_line k.schedule ++ end_line ∷ []) (processes_fine k.processes fits.processes)
+    (fine_append (map item_line k.schedule) (end_line ∷ []) (items_fine k.schedule fits.items) end_fine))))

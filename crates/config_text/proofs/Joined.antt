@@ -18,11 +18,11 @@ eight out a b c d e f g h = simp (append_assoc, append-nil)
 -- the lines before the scripts
 pub front_whole : (out : List ℕ) (k : Config) →
     (((((((out ++ codes "gemkernel 1\n") ++ ended (number_line (codes "classes") (length k.table))) ++ printed (texts_of (class_lines k.table k.pools))) ++ ended (number_line (codes "processors") k.processors)) ++ ended (cycle_line k.cycle))
-      ++ ended (number_line (codes "rounds") k.rounds)) ++ ended (number_line (codes "quantum") k.quantum)) ++ ended (number_line (codes "console") k.console)
+    ++ ended (number_line (codes "rounds") k.rounds)) ++ ended (number_line (codes "quantum") k.quantum)) ++ ended (number_line (codes "console") k.console)
     ≡ out ++ printed (texts_of (front_lines k))
 front_whole out k =
     eight out (ended header_line) (ended (number_line (codes "classes") (length k.table))) (printed (texts_of (class_lines k.table k.pools))) (ended (number_line (codes "processors") k.processors)) (ended (cycle_line k.cycle))
-      (ended (number_line (codes "rounds") k.rounds)) (ended (number_line (codes "quantum") k.quantum)) (ended (number_line (codes "console") k.console))
+    (ended (number_line (codes "rounds") k.rounds)) (ended (number_line (codes "quantum") k.quantum)) (ended (number_line (codes "console") k.console))
     ∙ ap (λ (t : List ℕ). out ++ t) (sym (two (header_lines k) (number_lines k)))
 
 five : (a b c d e : List ℕ) → (((([] ++ a) ++ b) ++ c) ++ d) ++ e ≡ a ++ (b ++ (c ++ (d ++ e)))
@@ -37,8 +37,8 @@ text_whole k none =
     let processes = map process_line k.processes in
     let items = map item_line k.schedule in
     let parts : printed (texts_of (front ++ (scripts ++ (processes ++ (items ++ end_line ∷ []))))) ≡ printed (texts_of front) ++ (printed (texts_of scripts) ++ (printed (texts_of processes) ++ (printed (texts_of items) ++ codes "end\n"))) =
-      two front (scripts ++ (processes ++ (items ++ end_line ∷ []))) ∙ ap (λ (t : List ℕ). printed (texts_of front) ++ t)
-        (two scripts (processes ++ (items ++ end_line ∷ [])) ∙ ap (λ (t : List ℕ). printed (texts_of scripts) ++ t)
-          (two processes (items ++ end_line ∷ []) ∙ ap (λ (t : List ℕ). printed (texts_of processes) ++ t) (two items (end_line ∷ [])))) in
+    two front (scripts ++ (processes ++ (items ++ end_line ∷ []))) ∙ ap (λ (t : List ℕ). printed (texts_of front) ++ t)
+    (two scripts (processes ++ (items ++ end_line ∷ [])) ∙ ap (λ (t : List ℕ). printed (texts_of scripts) ++ t)
+    (two processes (items ++ end_line ∷ []) ∙ ap (λ (t : List ℕ). printed (texts_of processes) ++ t) (two items (end_line ∷ [])))) in
     five (printed (texts_of front)) (printed (texts_of scripts)) (printed (texts_of processes)) (printed (texts_of items)) (codes "end\n") ∙ sym parts
     ∙ ap (λ (gs : List GateLine). printed (texts_of (front ++ (scripts ++ (map gate_line gs ++ (processes ++ (items ++ end_line ∷ []))))))) (sym none)

@@ -67,7 +67,7 @@ mapped_more f xs i x lt is = rw (take_more xs i x lt, ← is, map_push f (take i
 pub scripts_more : (ss : List Script) (i : ℕ) (s : Script) → i < length ss → s ≡ get_or ss i s → printed (texts_of (flat_map script_lines (take (i + 1) ss))) ≡ printed (texts_of (flat_map script_lines (take i ss))) ++ printed (texts_of (script_lines s))
 scripts_more ss i s lt is =
     rw (take_more ss i s lt, ← is, flat_map-append script_lines (take i ss) (s ∷ []), append-nil (script_lines s), map-append (λ (ws : List Word). map word_text ws) (flat_map script_lines (take i ss)) (script_lines s))
-       (printed-append (texts_of (flat_map script_lines (take i ss))) (texts_of (script_lines s)))
+    (printed-append (texts_of (flat_map script_lines (take i ss))) (texts_of (script_lines s)))
 
 class_lines_more : (cs : List ClassEntry) (ps : List Pool) (c : ClassEntry) (p : Pool) → length ps ≡ length cs → class_lines (cs ++ c ∷ []) (ps ++ p ∷ []) ≡ class_lines cs ps ++ class_line c p ∷ []
 class_lines_more [] [] c p same = refl
@@ -82,7 +82,7 @@ classes_more out cs ps i d lt same =
     let lengths : length (take i ps) ≡ length (take i cs) = omega (arith, length-take i ps, length-take i cs, same) in
     let lines = class_lines (take i cs) (take i ps) in
     let more : printed (texts_of (class_lines (take (i + 1) cs) (take (i + 1) ps))) ≡ printed (texts_of lines) ++ ended (class_line (class_at cs i) (get_or ps i d)) =
-      rw (take_more cs i no_class lt, take_more ps i d within, class_lines_more (take i cs) (take i ps) (class_at cs i) (get_or ps i d) lengths) (line_more lines (class_line (class_at cs i) (get_or ps i d))) in
+    rw (take_more cs i no_class lt, take_more ps i d within, class_lines_more (take i cs) (take i ps) (class_at cs i) (get_or ps i d) lengths) (line_more lines (class_line (class_at cs i) (get_or ps i d))) in
     class_whole (out ++ printed (texts_of lines)) (class_at cs i) (get_or ps i d) ∙ append_assoc out (printed (texts_of lines)) (ended (class_line (class_at cs i) (get_or ps i d))) ∙ ap (λ (t : List ℕ). out ++ t) (sym more)
 
 spaced_from : (w : List ℕ) (ns : List ℕ) → spaced (w ∷ map word_text (map number ns)) ≡ w ++ blank_numbers ns

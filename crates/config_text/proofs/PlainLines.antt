@@ -50,14 +50,14 @@ categories_small low (n ∷ ns) all = (omega (arith, all.1), categories_small (n
 half_word : (level word : ℕ) → level ≤ 15 → IsWord (half_text level word)
 half_word level word low =
     word_append (decimal level) (123 ∷ (joined (listed 32 word) ++ 125 ∷ [])) (decimal_word level (omega arith)).1
-      (word_cons 123 (joined (listed 32 word) ++ 125 ∷ []) (omega arith) (omega arith)
-        (plain_append (joined (listed 32 word)) (125 ∷ []) (joined_plain (listed 32 word) (categories_small 0 (listed 32 word) (listed_rises 32 word (omega arith)).0)) (mark 125 (omega arith) (omega arith), tt)))
+    (word_cons 123 (joined (listed 32 word) ++ 125 ∷ []) (omega arith) (omega arith)
+    (plain_append (joined (listed 32 word)) (125 ∷ []) (joined_plain (listed 32 word) (categories_small 0 (listed 32 word) (listed_rises 32 word (omega arith)).0)) (mark 125 (omega arith) (omega arith), tt)))
 
 pub label_word : (l : Label) → IsLabel l → IsWord (label_text l)
 unfolding label_text
 label_word l is =
     word_append (half_text l.secrecy_level l.secrecy_cats) (47 ∷ half_text l.integrity_level l.integrity_cats) (half_word l.secrecy_level l.secrecy_cats is.secrecy_level).1
-      (word_cons 47 (half_text l.integrity_level l.integrity_cats) (omega arith) (omega arith) (half_word l.integrity_level l.integrity_cats is.integrity_level).1)
+    (word_cons 47 (half_text l.integrity_level l.integrity_cats) (omega arith) (omega arith) (half_word l.integrity_level l.integrity_cats is.integrity_level).1)
 
 -- ---- words
 
@@ -80,8 +80,8 @@ fine_word (immediate n) fine = decimal_word n fine
 fine_word (target n) fine = decimal_word n fine
 fine_word (events p c n) fine =
     word_append (decimal p) (46 ∷ (decimal c ++ 42 ∷ decimal n)) (decimal_word p fine.0).1
-      (word_cons 46 (decimal c ++ 42 ∷ decimal n) (omega arith) (omega arith)
-        (plain_append (decimal c) (42 ∷ decimal n) (decimal_word c fine.1).1 (mark 42 (omega arith) (omega arith), (decimal_word n fine.2).1)))
+    (word_cons 46 (decimal c ++ 42 ∷ decimal n) (omega arith) (omega arith)
+    (plain_append (decimal c) (42 ∷ decimal n) (decimal_word c fine.1).1 (mark 42 (omega arith) (omega arith), (decimal_word n fine.2).1)))
 
 abbrev pub IsFineLine : List Word → Type 0
 IsFineLine ws = (0 < length ws) × AllByRecursion IsFineWord ws

@@ -51,8 +51,21 @@ at_processors table pools = record start { stage = stage.Processors; due = 0; ta
 
 abbrev pub at_body : Config → List Script → List ProcessLine → List Item → Place
 at_body k scripts processes schedule = record {
-  stage = stage.Body; due = 0; table = k.table; pools = k.pools; processors = k.processors; cycle = k.cycle; rounds = k.rounds; quantum = k.quantum;
-  console = k.console; script_class = 0; instrs = []; scripts = scripts; processes = processes; schedule = schedule }
+  stage = stage.Body;
+  due = 0;
+  table = k.table;
+  pools = k.pools;
+  processors = k.processors;
+  cycle = k.cycle;
+  rounds = k.rounds;
+  quantum = k.quantum;
+  console = k.console;
+  script_class = 0;
+  instrs = [];
+  scripts = scripts;
+  processes = processes;
+  schedule = schedule;
+}
 
 abbrev at_script : Config → List Script → ℕ → List Instr → Place
 at_script k scripts class instrs = record (at_body k scripts [] []) { stage = stage.Script; script_class = class; instrs = instrs }
@@ -107,9 +120,13 @@ pub record HeaderFits (k : Config) : Type 0 where
 numbers_are_taken : (k : Config) → HeaderFits k → steps (at_processors k.table k.pools) (texts_of (number_lines k)) ≡ place_is (at_body k [] [] [])
 unfolding step
 numbers_are_taken k fits =
-    rw (decimal_value 256 k.processors fits.processors (omega (arith, fits.processors)), numbers_taken [] k.cycle fits.cycle,
-        decimal_value (2 ^ 32) k.rounds fits.rounds (omega (arith, fits.rounds)), decimal_value (2 ^ 32) k.quantum fits.quantum (omega (arith, fits.quantum)),
-        decimal_value (2 ^ 32) k.console fits.console (omega (arith, fits.console))) refl
+    rw (
+      decimal_value 256 k.processors fits.processors (omega (arith, fits.processors)),
+      numbers_taken [] k.cycle fits.cycle,
+      decimal_value (2 ^ 32) k.rounds fits.rounds (omega (arith, fits.rounds)),
+      decimal_value (2 ^ 32) k.quantum fits.quantum (omega (arith, fits.quantum)),
+      decimal_value (2 ^ 32) k.console fits.console (omega (arith, fits.console)),
+    ) refl
 
 -- ---- scripts
 
@@ -173,8 +190,8 @@ script_ended k ss c is ok = rw ok refl
 script_taken : (k : Config) (ss : List Script) (s : Script) → ScriptFits s → steps (at_body k ss [] []) (texts_of (script_lines s)) ≡ place_is (at_body k (ss ++ s ∷ []) [] [])
 script_taken k ss s fits =
     rw (script_begun k ss s.class fits.class, map-append (λ (ws : List Word). map word_text ws) (map instr_line s.program) (end_line ∷ []))
-       (steps_then (at_script k ss s.class []) (at_script k ss s.class s.program) (texts_of (map instr_line s.program)) (texts_of (end_line ∷ [])) (instrs_taken k ss s.class [] s.program fits.narrow fits.ranges)
-        ∙ script_ended k ss s.class s.program fits.program)
+    (steps_then (at_script k ss s.class []) (at_script k ss s.class s.program) (texts_of (map instr_line s.program)) (texts_of (end_line ∷ [])) (instrs_taken k ss s.class [] s.program fits.narrow fits.ranges)
+    ∙ script_ended k ss s.class s.program fits.program)
 
 scripts_taken : (k : Config) (ss more : List Script) → AllByRecursion ScriptFits more → steps (at_body k ss [] []) (texts_of (flat_map script_lines more)) ≡ place_is (at_body k (ss ++ more) [] [])
 scripts_taken k ss [] fit = ap (λ (l : List Script). place_is (at_body k l [] [])) (sym (append-nil ss))

@@ -65,6 +65,10 @@ no_digit c n low lt = no_byte c (decimal n) (decimal_is_IsNumeral n lt).0.1 (λ 
 
 pub event_taken : (p c n : ℕ) → p < 256 → c < 256 → n < 2 ^ 32 → event_in (decimal p ++ 46 ∷ (decimal c ++ 42 ∷ decimal n)) ≡ Some (item.Events p c n)
 event_taken p c n a b d =
-    rw (cut_at 46 (decimal p) (decimal c ++ 42 ∷ decimal n) (no_digit 46 p (omega arith) (omega arith)),
-        cut_at 42 (decimal c) (decimal n) (no_digit 42 c (omega arith) (omega arith)),
-        decimal_value 256 p a (omega arith), decimal_value 256 c b (omega arith), decimal_value (2 ^ 32) n d (omega arith)) refl
+    rw (
+      cut_at 46 (decimal p) (decimal c ++ 42 ∷ decimal n) (no_digit 46 p (omega arith) (omega arith)),
+      cut_at 42 (decimal c) (decimal n) (no_digit 42 c (omega arith) (omega arith)),
+      decimal_value 256 p a (omega arith),
+      decimal_value 256 c b (omega arith),
+      decimal_value (2 ^ 32) n d (omega arith),
+    ) refl

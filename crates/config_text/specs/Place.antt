@@ -34,18 +34,53 @@ pub record Place : Type 0 where
 -- a draft without where it lies in memory
 abbrev pub place_of : Draft → Place
 place_of d = record {
-  stage = d.stage; due = d.due; table = map entry_of d.entries.items; pools = d.pools.items; processors = d.processors; cycle = d.cycle.items;
-  rounds = d.rounds; quantum = d.quantum; console = d.console; script_class = d.script_class; instrs = d.instrs.items;
-  scripts = d.scripts.items; processes = d.processes.items; schedule = d.schedule.items }
+  stage = d.stage;
+  due = d.due;
+  table = map entry_of d.entries.items;
+  pools = d.pools.items;
+  processors = d.processors;
+  cycle = d.cycle.items;
+  rounds = d.rounds;
+  quantum = d.quantum;
+  console = d.console;
+  script_class = d.script_class;
+  instrs = d.instrs.items;
+  scripts = d.scripts.items;
+  processes = d.processes.items;
+  schedule = d.schedule.items;
+}
 
 -- before the first line
 abbrev pub start : Place
 start = record {
-  stage = stage.Header; due = 0; table = []; pools = []; processors = 0; cycle = []; rounds = 0; quantum = 0; console = 0;
-  script_class = 0; instrs = []; scripts = []; processes = []; schedule = [] }
+  stage = stage.Header;
+  due = 0;
+  table = [];
+  pools = [];
+  processors = 0;
+  cycle = [];
+  rounds = 0;
+  quantum = 0;
+  console = 0;
+  script_class = 0;
+  instrs = [];
+  scripts = [];
+  processes = [];
+  schedule = [];
+}
 
 -- the configuration of a place, without gates
 abbrev pub config_in : Place → Config
 config_in p = record {
-  table = p.table; pools = p.pools; processors = p.processors; cycle = p.cycle; rounds = p.rounds; quantum = p.quantum; console = p.console;
-  scripts = p.scripts; gates = []; processes = p.processes; schedule = p.schedule }
+  table = p.table;
+  pools = p.pools;
+  processors = p.processors;
+  cycle = p.cycle;
+  rounds = p.rounds;
+  quantum = p.quantum;
+  console = p.console;
+  scripts = p.scripts;
+  gates = [];
+  processes = p.processes;
+  schedule = p.schedule;
+}

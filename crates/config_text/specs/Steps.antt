@@ -152,9 +152,9 @@ with_instr p i = record p { instrs = p.instrs ++ i ∷ [] }
 -- the script is at its end
 abbrev pub end_step : Place → Option Place
 end_step p =
-  if program_ok p.instrs
-  then Some (record p { stage = stage.Body; script_class = 0; instrs = []; scripts = p.scripts ++ record { class = p.script_class; program = p.instrs } ∷ [] })
-  else None
+    if program_ok p.instrs
+    then Some (record p { stage = stage.Body; script_class = 0; instrs = []; scripts = p.scripts ++ record { class = p.script_class; program = p.instrs } ∷ [] })
+    else None
 
 -- `halt`, `out R`, `set R N` or `end`
 abbrev pub instr_step : Place → List Text → Option Place

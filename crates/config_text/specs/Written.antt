@@ -96,8 +96,8 @@ end_line = fixed (codes "end") ∷ []
 
 abbrev pub class_line : ClassEntry → Pool → List Word
 class_line c p =
-  fixed (codes "class") ∷ fixed c.name ∷ label c.label ∷ fixed (codes "frames") ∷ number p.frames ∷ fixed (codes "pages") ∷ number p.pages ∷
-  fixed (codes "volume") ∷ number p.volume ∷ []
+    fixed (codes "class") ∷ fixed c.name ∷ label c.label ∷ fixed (codes "frames") ∷ number p.frames ∷ fixed (codes "pages") ∷ number p.pages ∷
+    fixed (codes "volume") ∷ number p.volume ∷ []
 
 -- one line for each class, with its pool
 abbrev pub class_lines : List ClassEntry → List Pool → List (List Word)
@@ -113,7 +113,7 @@ script_lines s = number_line (codes "script") s.class ∷ (map instr_line s.prog
 
 abbrev pub gate_line : GateLine → List Word
 gate_line g =
-  fixed (codes "gate") ∷ number g.class ∷ number g.script ∷ number g.brackets.r1 ∷ number g.brackets.r2 ∷ number g.brackets.r3 ∷ []
+    fixed (codes "gate") ∷ number g.class ∷ number g.script ∷ number g.brackets.r1 ∷ number g.brackets.r2 ∷ number g.brackets.r3 ∷ []
 
 abbrev pub process_line : ProcessLine → List Word
 process_line p = fixed (codes "process") ∷ number p.processor ∷ number p.class ∷ number p.script ∷ number p.ring ∷ []
@@ -131,8 +131,8 @@ header_lines k = header_line ∷ number_line (codes "classes") (length k.table) 
 
 abbrev pub number_lines : Config → List (List Word)
 number_lines k =
-  number_line (codes "processors") k.processors ∷ cycle_line k.cycle ∷ number_line (codes "rounds") k.rounds ∷
-  number_line (codes "quantum") k.quantum ∷ number_line (codes "console") k.console ∷ []
+    number_line (codes "processors") k.processors ∷ cycle_line k.cycle ∷ number_line (codes "rounds") k.rounds ∷
+    number_line (codes "quantum") k.quantum ∷ number_line (codes "console") k.console ∷ []
 
 -- the lines before the scripts
 abbrev pub front_lines : Config → List (List Word)
@@ -141,7 +141,7 @@ front_lines k = header_lines k ++ number_lines k
 -- the lines of a configuration, in their order
 abbrev pub config_lines : Config → List (List Word)
 config_lines k =
-  front_lines k ++ (flat_map script_lines k.scripts ++ (map gate_line k.gates ++
+    front_lines k ++ (flat_map script_lines k.scripts ++ (map gate_line k.gates ++
     (map process_line k.processes ++ (map item_line k.schedule ++ end_line ∷ []))))
 
 -- the words of lines as they are written

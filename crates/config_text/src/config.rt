@@ -44,11 +44,20 @@ pub struct ProcessLine {
 #[derive(Clone, Copy, Debug, PartialEq, Eq)]
 pub enum Item {
     /// So many events of one virtual processor.
-    Events { processor: u8, class: u8, count: u32 },
+    Events {
+        processor: u8,
+        class: u8,
+        count: u32,
+    },
     /// So many events, drawn from a number.
-    Mix { start: u64, count: u32 },
+    Mix {
+        start: u64,
+        count: u32,
+    },
     /// So many rounds.
-    Sweep { rounds: u32 },
+    Sweep {
+        rounds: u32,
+    },
 }
 
 /// A whole configuration. Scripts and gates are numbered from 0 in their order.

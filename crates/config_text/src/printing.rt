@@ -175,11 +175,7 @@ fn push_process(alloc: Global, out: &mut Vec<u8>, line: &ProcessLine) -> Result<
 }
 
 /// Writes the lines of the processes.
-fn push_processes(
-    alloc: Global,
-    out: &mut Vec<u8>,
-    lines: &[ProcessLine],
-) -> Result<(), AllocError>
+fn push_processes(alloc: Global, out: &mut Vec<u8>, lines: &[ProcessLine]) -> Result<(), AllocError>
     ensures { OnOk result (out.new.items ≡ out.old.items ++ printed (texts_of (map spec.process_line lines.now))) }
 {
     for line in lines {

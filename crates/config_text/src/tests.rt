@@ -5,11 +5,13 @@ use rings::Ring;
 use std::alloc::Global;
 use std::test::Fail;
 
-const FRONT: &str = "gemkernel 1\nclasses 2\nclass low 0{}/15{} frames 2 pages 2 volume 0\nclass high 1{}/15{} frames 2 pages 2 volume 0\nprocessors 1\ncycle 0\nrounds 1\nquantum 1\nconsole 100\n";
+const FRONT: &str =
+    "gemkernel 1\nclasses 2\nclass low 0{}/15{} frames 2 pages 2 volume 0\nclass high 1{}/15{} frames 2 pages 2 volume 0\nprocessors 1\ncycle 0\nrounds 1\nquantum 1\nconsole 100\n";
 
 const BACK: &str = "script 0\nset r2 5\nout r2\nhalt\nend\nprocess 0 0 0 4\nevents 0.0*3\nend\n";
 
-const TURNED: &str = "gemkernel 1\nclasses 2\nclass low 1{}/15{} frames 2 pages 2 volume 0\nclass high 0{}/15{} frames 2 pages 2 volume 0\nprocessors 1\ncycle 0\nrounds 1\nquantum 1\nconsole 100\n";
+const TURNED: &str =
+    "gemkernel 1\nclasses 2\nclass low 1{}/15{} frames 2 pages 2 volume 0\nclass high 0{}/15{} frames 2 pages 2 volume 0\nprocessors 1\ncycle 0\nrounds 1\nquantum 1\nconsole 100\n";
 
 /// What is read of both parts. None where they are refused with line 0 and code 40.
 fn read(alloc: Global, front: &str, back: &str) -> Result<Option<Config>, Fail> {

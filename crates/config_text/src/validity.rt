@@ -21,9 +21,7 @@ const MAX_EVENTS: u64 = 4_194_304;
 fn are_pools(pools: &[Pool]) -> bool
     ensures { result ≡ list_all spec.pool_ok pools.now }
 {
-    pools
-        .iter()
-        .all(|pool| pool.frames <= 16 && pool.pages <= 32 && pool.volume <= 4)
+    pools.iter().all(|pool| pool.frames <= 16 && pool.pages <= 32 && pool.volume <= 4)
 }
 
 fn have_no_volume(pools: &[Pool]) -> bool
@@ -133,7 +131,12 @@ fn is_process(config: &Config, line: &ProcessLine) -> bool
     line.processor < config.processors
         && line.class < config.table.count()
         && line.ring.0 <= 7
-        && uses_script(&config.table, config.scripts.as_slice(), line.class, line.script)
+        && uses_script(
+            &config.table,
+            config.scripts.as_slice(),
+            line.class,
+            line.script,
+        )
 }
 
 fn are_processes(config: &Config, lines: &[ProcessLine]) -> bool

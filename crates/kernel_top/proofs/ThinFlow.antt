@@ -32,22 +32,26 @@ words_section k events r c = report_thin k r.thin events r.first r.few c ∙ sym
 
 -- what a class is shown depends only on the configuration and the events at or below it
 pub low_section_same : (k j : Config) (events others : List Event) (c : ℕ) → low_config c k ≡ low_config c j → low_events k.table c events ≡ low_events j.table c others →
-  low_section k events c ≡ low_section j others c
+    low_section k events c ≡ low_section j others c
 low_section_same k j events others c low same =
-  ap (λ (z : Config). section c (run z (effects z (low_events k.table c events)))) low
-  ∙ ap (λ (z : List Event). section c (run (low_config c j) (effects (low_config c j) z))) same
+    ap (λ (z : Config). section c (run z (effects z (low_events k.table c events)))) low
+    ∙ ap (λ (z : List Event). section c (run (low_config c j) (effects (low_config c j) z))) same
 
 -- so two runs of the machine of words that agree at or below a class print equal sections for it
 pub no_flow : (k j : Config) (events others : List Event) (c : ℕ) → IsThinRun k events → IsThinRun j others →
-  low_config c k ≡ low_config c j → low_events k.table c events ≡ low_events j.table c others →
-  section_words c (machine k events) ≡ section_words c (machine j others)
+    low_config c k ≡ low_config c j → low_events k.table c events ≡ low_events j.table c others →
+    section_words c (machine k events) ≡ section_words c (machine j others)
 no_flow k j events others c r q low same =
-  words_section k events r c ∙ low_section_same k j events others c low same ∙ sym (words_section j others q c)
+    words_section k events r c ∙ low_section_same k j events others c low same ∙ sym (words_section j others q c)
 
 module _ (k : ConfigText) (valid : IsValid k) (narrow : IsNarrow k) where
   pub text_run : IsThinRun (configuration k []) (events_of k)
   text_run = record {
-    thin = text_thin k valid narrow; processes = text_processes k valid narrow; first = text_first k valid narrow; few = text_few k valid narrow }
+    thin = text_thin k valid narrow;
+    processes = text_processes k valid narrow;
+    first = text_first k valid narrow;
+    few = text_few k valid narrow;
+  }
 
   -- the report of a narrow text is what the words of the machine hold, section by section
   pub text_words_report : report_of (configuration k []) (events_of k) ≡ flat_map (λ c. section_words c (machine (configuration k []) (events_of k))) (below (length k.table))

@@ -36,16 +36,18 @@ pub record ThinFacts (k : Config) : Type 0 where
 
 -- one line at most of a class
 one_of : (k : Config) (d : ℕ) (lines : List ProcessLine) → list_all (thin_line k) lines ≡ true →
-  (filter (of_class d) lines ≡ []) ⊎ (count_by (of_class d) k.processes ≤ 1)
+    (filter (of_class d) lines ≡ []) ⊎ (count_by (of_class d) k.processes ≤ 1)
 one_of k d [] h = inl refl
 one_of k d (l ∷ lines) h = by_test (one_of k d lines parts.1) (l.class == d) refl
   where
     parts : (thin_line k l ≡ true) × (list_all (thin_line k) lines ≡ true)
     parts = and_parts _ _ h
+
     alone : (l.processor == 0 ≡ true) × (nat_le (count_by (λ (y : ProcessLine). y.class == l.class) k.processes) 1 ≡ true)
     alone = and_parts _ _ parts.0
+
     by_test : (filter (of_class d) lines ≡ []) ⊎ (count_by (of_class d) k.processes ≤ 1) → (b : Bool) → (l.class == d) ≡ b →
-      ((if b then l ∷ filter (of_class d) lines else filter (of_class d) lines) ≡ []) ⊎ (count_by (of_class d) k.processes ≤ 1)
+        ((if b then l ∷ filter (of_class d) lines else filter (of_class d) lines) ≡ []) ⊎ (count_by (of_class d) k.processes ≤ 1)
     by_test rest true e = inr (subst (λ z. count_by (λ (y : ProcessLine). y.class == z) k.processes ≤ 1) (eqb-true l.class d e) (leb-true _ 1 alone.1))
     by_test rest false e = rest
 
@@ -55,15 +57,18 @@ thin_facts k t = record {
   scripts = t.scripts;
   first = list_all_more (thin_line k) on_zero (λ l h. (and_parts _ _ h).0) k.processes t.processes;
   one = λ d. elim (one_of k d k.processes t.processes) as (λ _. length (filter (of_class d) k.processes) ≤ 1) [
-      inl none ↦ rw none (omega arith)
-    | inr few ↦ rw (length-filter (of_class d) k.processes) few ] }
+    | inl none ↦ rw none (omega arith)
+    | inr few ↦ rw (length-filter (of_class d) k.processes) few
+  ];
+}
 
 pub low_facts : (k : Config) (c : ℕ) → ThinFacts k → ThinFacts (low_config c k)
 low_facts k c t = record {
   records = rw t.records refl;
   scripts = list_all_map (at_place simple_script) (kept_below (λ (x : Script). x.class) (λ x. at_or_below k.table x c)) kept k.scripts t.scripts;
   first = list_all_filter on_zero (λ (p : ProcessLine). at_or_below k.table p.class c) k.processes t.first;
-  one = λ d. (let a = length_filter_filter (of_class d) (λ (p : ProcessLine). at_or_below k.table p.class c) k.processes in let b = t.one d in omega (arith, a, b)) }
+  one = λ d. (let a = length_filter_filter (of_class d) (λ (p : ProcessLine). at_or_below k.table p.class c) k.processes in let b = t.one d in omega (arith, a, b));
+}
   where
     kept : (o : Option Script) → at_place simple_script o ≡ true → at_place simple_script (kept_below (λ (x : Script). x.class) (λ x. at_or_below k.table x c) o) ≡ true
     kept None h = refl
@@ -81,7 +86,7 @@ module _ (k : Config) (t : ThinFacts k) where
   new_line d l = new_process d l.script l.ring 0
 
   at_most_one : (d : ℕ) (lines : List ProcessLine) → length lines ≤ 1 →
-    map (λ i. option_map (new_line d) (slice_get lines i)) (below 4) ≡ option_map (new_line d) (slice_get lines 0) ∷ None ∷ None ∷ None ∷ []
+      map (λ i. option_map (new_line d) (slice_get lines i)) (below 4) ≡ option_map (new_line d) (slice_get lines 0) ∷ None ∷ None ∷ None ∷ []
   at_most_one d [] h = refl
   at_most_one d (x ∷ []) h = refl
   at_most_one d (x ∷ y ∷ zs) h = absurd (omega arith)
@@ -102,21 +107,26 @@ module _ (k : Config) (t : ThinFacts k) where
     where
       by_test : (b : Bool) → (p == 0) ≡ b → opening_slots k d p ≡ (if b then (class_opening k d).process ∷ None ∷ None ∷ None ∷ [] else None ∷ None ∷ None ∷ None ∷ [])
       by_test true e =
-        ap (opening_slots k d) (eqb-true p 0 e)
-        ∙ ap (λ (ls : List ProcessLine). map (λ i. option_map (new_line d) (slice_get ls i)) (below 4)) (own_lines d)
-        ∙ at_most_one d (filter (of_class d) k.processes) (t.one d)
-        ∙ ap (λ o. option_map (new_line d) o ∷ None ∷ None ∷ None ∷ []) (find_first (of_class d) k.processes)
+          ap (opening_slots k d) (eqb-true p 0 e)
+          ∙ ap (λ (ls : List ProcessLine). map (λ i. option_map (new_line d) (slice_get ls i)) (below 4)) (own_lines d)
+          ∙ at_most_one d (filter (of_class d) k.processes) (t.one d)
+          ∙ ap (λ o. option_map (new_line d) o ∷ None ∷ None ∷ None ∷ []) (find_first (of_class d) k.processes)
       by_test false e = ap (λ (ls : List ProcessLine). map (λ i. option_map (new_line d) (slice_get ls i)) (below 4)) (no_lines d p e)
 
   opening_vp_is : (d p : ℕ) → opening_vp k d p ≡ (if p == 0 then own_vp (class_opening k d) false else blank_vp)
   opening_vp_is d p = ap (λ (slots : List (Option Process)). record { slots = map (option_map at_rest) slots; current = 0; lines = [] }) (opening_slots_are d p)
-    ∙ elim (p == 0) as (λ b. record {
-          slots = map (option_map at_rest) (if b then (class_opening k d).process ∷ None ∷ None ∷ None ∷ [] else None ∷ None ∷ None ∷ None ∷ []);
-          current = 0; lines = [] } ≡ (if b then own_vp (class_opening k d) false else blank_vp)) [ true ↦ refl | false ↦ refl ]
+      ∙ elim (p == 0) as (λ b. record {
+        slots = map (option_map at_rest) (if b then (class_opening k d).process ∷ None ∷ None ∷ None ∷ [] else None ∷ None ∷ None ∷ None ∷ []);
+        current = 0;
+        lines = [];
+      } ≡ (if b then own_vp (class_opening k d) false else blank_vp)) [ true ↦ refl | false ↦ refl ]
 
   pub together_opening : Together k 0 (opening k) (opening_state k) (class_opening k)
   together_opening = record {
-    shared = refl; state_shared = refl; begun = λ d. false;
+    shared = refl;
+    state_shared = refl;
+    begun = λ d. false;
     parts = λ d. ap (λ (f : ℕ → VirtualProcessor). record { words = opening_words k d; vp = f }) (λ i p. (opening_vp_is d p) i);
     states = λ d. ap (λ (f : ℕ → List (Option Process)). record (class_state k d (class_opening k d)) { slots = f }) (λ i p. (opening_slots_are d p) i);
-    fits = λ d. record { used = omega arith; within = omega arith; count = λ h. refl } }
+    fits = λ d. record { used = omega arith; within = omega arith; count = λ h. refl };
+  }

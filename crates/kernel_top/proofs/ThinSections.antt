@@ -41,17 +41,17 @@ module _ (k : Config) (records : k.records ≡ []) (n : ℕ) (m : Machine) (a : 
 
   untouched : (u : SegId) → is_touched (cell_at a c u) (eventcount a c u) ≡ false
   untouched u = ap (λ (z : Part). is_touched (z.cell u) (eventcount a c u)) (t.states c)
-    ∙ ap (is_touched (opening_cell k c u)) (count_zero u)
-    ∙ ap (λ (z : List SegRecord). is_touched (opening_cell (record k { records = z }) c u) 0) records
+      ∙ ap (is_touched (opening_cell k c u)) (count_zero u)
+      ∙ ap (λ (z : List SegRecord). is_touched (opening_cell (record k { records = z }) c u) 0) records
 
   pub seen_is : seen c a ≡ class_seen k c (f c)
   seen_is =
-    ap (λ (z : Part). seen_of (class_at a.shared.table c).name z.lines (seen_processes z.slots) (seen_segments a c)) (t.states c)
-    ∙ ap (λ (z : Shared). seen_of (class_at z.table c).name (f c).lines (seen_processes (slots_of (f c).process)) (seen_segments a c)) t.state_shared
-    ∙ ap (λ z. seen_of (class_at k.table c).name (f c).lines z (seen_segments a c)) (slots_seen (f c).process)
-    ∙ ap (λ (z : List SegId). seen_of (class_at k.table c).name (f c).lines (seen_process (f c).process)
-          (map (λ u. seen_segment u (cell_at a c u) (eventcount a c u)) z))
-        (filter_none (λ u. is_touched (cell_at a c u) (eventcount a c u)) untouched (identities (classes a.shared)))
+      ap (λ (z : Part). seen_of (class_at a.shared.table c).name z.lines (seen_processes z.slots) (seen_segments a c)) (t.states c)
+      ∙ ap (λ (z : Shared). seen_of (class_at z.table c).name (f c).lines (seen_processes (slots_of (f c).process)) (seen_segments a c)) t.state_shared
+      ∙ ap (λ z. seen_of (class_at k.table c).name (f c).lines z (seen_segments a c)) (slots_seen (f c).process)
+      ∙ ap (λ (z : List SegId). seen_of (class_at k.table c).name (f c).lines (seen_process (f c).process)
+      (map (λ u. seen_segment u (cell_at a c u) (eventcount a c u)) z))
+      (filter_none (λ u. is_touched (cell_at a c u) (eventcount a c u)) untouched (identities (classes a.shared)))
 
   -- the machine of words
   word_count_zero : (u : SegId) → word_count m c u ≡ 0
@@ -59,13 +59,13 @@ module _ (k : Config) (records : k.records ≡ []) (n : ℕ) (m : Machine) (a : 
 
   abbrev touched_by : Words → ℕ → SegId → Bool
   touched_by w count u =
-    not (is_never (home_of (w.guarded (HomeOf u)))) || nat_lt 0 (w.guarded (WritesOf u)) || nat_lt 0 count || nat_lt 0 (w.sequencer u) ||
-    list_any (λ e. is_some e) (entries_of m.shared w.guarded u)
+      not (is_never (home_of (w.guarded (HomeOf u)))) || nat_lt 0 (w.guarded (WritesOf u)) || nat_lt 0 count || nat_lt 0 (w.sequencer u) ||
+      list_any (λ e. is_some e) (entries_of m.shared w.guarded u)
 
   words_untouched : (u : SegId) → is_touched_word m c u ≡ false
   words_untouched u = ap (λ (z : ClassPart). touched_by z.words (word_count m c u) u) (t.parts c)
-    ∙ ap (λ z. touched_by (own_words k c (f c).used) z u) (word_count_zero u)
-    ∙ ap (λ (z : List SegRecord). touched_by (own_words (record k { records = z }) c (f c).used) 0 u) records
+      ∙ ap (λ z. touched_by (own_words k c (f c).used) z u) (word_count_zero u)
+      ∙ ap (λ (z : List SegRecord). touched_by (own_words (record k { records = z }) c (f c).used) 0 u) records
 
   abbrev run_part : ClassPart
   run_part = class_part k c (f c) (t.begun c)
@@ -77,18 +77,18 @@ module _ (k : Config) (records : k.records ≡ []) (n : ℕ) (m : Machine) (a : 
   processes_seen = by_process (f c).process (f c).lines (f c).used
     where
       by_process : (o : Option Process) (l : List ℕ) (u : ℕ) →
-        seen_processes (λ p. processes_of ((class_part k c (record { process = o; lines = l; used = u }) (t.begun c)).vp p)) ≡ seen_process o
+          seen_processes (λ p. processes_of ((class_part k c (record { process = o; lines = l; used = u }) (t.begun c)).vp p)) ≡ seen_process o
       by_process None l u = refl
       by_process (Some p) l u = refl
 
   pub seen_words_is : seen_words c m ≡ class_seen k c (f c)
   seen_words_is =
-    ap (λ (z : Shared). seen_of (class_at z.table c).name (printed z (m.part c)) (seen_processes (λ p. processes_of ((m.part c).vp p))) (segments)) t.shared
-    ∙ ap (λ (z : ClassPart). seen_of (class_at k.table c).name (printed (shared_of k) z) (seen_processes (λ p. processes_of (z.vp p))) (segments)) (t.parts c)
-    ∙ ap (λ z. seen_of (class_at k.table c).name z (seen_processes (λ p. processes_of (run_part.vp p))) (segments)) lines_printed
-    ∙ ap (λ z. seen_of (class_at k.table c).name (f c).lines z (segments)) processes_seen
-    ∙ ap (λ (z : List SegId). seen_of (class_at k.table c).name (f c).lines (seen_process (f c).process) (map (word_segment m c) z))
-        (filter_none (is_touched_word m c) words_untouched (identities (classes m.shared)))
+      ap (λ (z : Shared). seen_of (class_at z.table c).name (printed z (m.part c)) (seen_processes (λ p. processes_of ((m.part c).vp p))) (segments)) t.shared
+      ∙ ap (λ (z : ClassPart). seen_of (class_at k.table c).name (printed (shared_of k) z) (seen_processes (λ p. processes_of (z.vp p))) (segments)) (t.parts c)
+      ∙ ap (λ z. seen_of (class_at k.table c).name z (seen_processes (λ p. processes_of (run_part.vp p))) (segments)) lines_printed
+      ∙ ap (λ z. seen_of (class_at k.table c).name (f c).lines z (segments)) processes_seen
+      ∙ ap (λ (z : List SegId). seen_of (class_at k.table c).name (f c).lines (seen_process (f c).process) (map (word_segment m c) z))
+      (filter_none (is_touched_word m c) words_untouched (identities (classes m.shared)))
     where
       segments : List SeenSegment
       segments = map (word_segment m c) (filter (is_touched_word m c) (identities (classes m.shared)))
@@ -98,6 +98,6 @@ module _ (k : Config) (records : k.records ≡ []) (n : ℕ) (m : Machine) (a : 
   live_is = ap (λ (z : ClassPart). list_any (λ p. list_any is_live (z.vp p).slots) (below 4)) (t.parts c) ∙ by_process (f c).process (f c).lines (f c).used
     where
       by_process : (o : Option Process) (l : List ℕ) (u : ℕ) →
-        list_any (λ p. list_any is_live ((class_part k c (record { process = o; lines = l; used = u }) (t.begun c)).vp p).slots) (below 4) ≡ process_is_live o
+          list_any (λ p. list_any is_live ((class_part k c (record { process = o; lines = l; used = u }) (t.begun c)).vp p).slots) (below 4) ≡ process_is_live o
       by_process None l u = refl
       by_process (Some p) l u = elim p.live as (λ b. ((b || false) || false) ≡ b) [ true ↦ refl | false ↦ refl ]

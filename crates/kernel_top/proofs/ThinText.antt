@@ -35,14 +35,14 @@ use Rattle.kernel_top.proofs.Headline.{low_section_thin, live_thin}
 pub list_all_to : {X Y : Type 0} (p : X → Bool) (q : Y → Bool) (f : X → Y) → ((x : X) → p x ≡ true → q (f x) ≡ true) → (xs : List X) → list_all p xs ≡ true → list_all q (map f xs) ≡ true
 list_all_to p q f each [] h = refl
 list_all_to p q f each (x ∷ xs) h =
-  let a : (p x ≡ true) × (list_all p xs ≡ true) = and_parts _ _ h in and_from _ _ (each x a.0) (list_all_to p q f each xs a.1)
+    let a : (p x ≡ true) × (list_all p xs ≡ true) = and_parts _ _ h in and_from _ _ (each x a.0) (list_all_to p q f each xs a.1)
 
 count_of_map : (p : ProcessLine → Bool) (xs : List ProcessText) → count_by p (map process_of_text xs) ≡ count_by (λ x. p (process_of_text x)) xs
 count_of_map p [] = refl
 count_of_map p (x ∷ xs) =
-  sum_by-cons (λ y. cond (p y) 1 0) (process_of_text x) (map process_of_text xs)
-  ∙ ap (λ n. cond (p (process_of_text x)) 1 0 + n) (count_of_map p xs)
-  ∙ sym (sum_by-cons (λ y. cond (p (process_of_text y)) 1 0) x xs)
+    sum_by-cons (λ y. cond (p y) 1 0) (process_of_text x) (map process_of_text xs)
+    ∙ ap (λ n. cond (p (process_of_text x)) 1 0 + n) (count_of_map p xs)
+    ∙ sym (sum_by-cons (λ y. cond (p (process_of_text y)) 1 0) x xs)
 
 narrow_simple : (i : Instr) → is_narrow_instr i ≡ true → is_simple i ≡ true
 narrow_simple I.Halt h = refl
@@ -56,16 +56,16 @@ module _ (k : ConfigText) (valid : IsValid k) (narrow : IsNarrow k) where
 
   on_zero : (x : ProcessText) → text_process_ok k x ≡ true → x.processor ≡ 0
   on_zero x h =
-    let tests = and_parts _ _ (and_parts _ _ (and_parts _ _ h).0).0 in
-    let few : x.processor < k.processors = ltb-true x.processor k.processors tests.0 in
-    let one : k.processors ≡ 1 = narrow.processor in omega arith
+      let tests = and_parts _ _ (and_parts _ _ (and_parts _ _ h).0).0 in
+      let few : x.processor < k.processors = ltb-true x.processor k.processors tests.0 in
+      let one : k.processors ≡ 1 = narrow.processor in omega arith
 
   line_thin : (x : ProcessText) → text_process_ok k x ≡ true → thin_line here (process_of_text x) ≡ true
   line_thin x h =
-    let inside = and_parts _ _ (and_parts _ _ (and_parts _ _ h).0).0 in
-    and_from _ _ (eq-eqb x.processor 0 (on_zero x h))
+      let inside = and_parts _ _ (and_parts _ _ (and_parts _ _ h).0).0 in
+      and_from _ _ (eq-eqb x.processor 0 (on_zero x h))
       (le-leb _ 1 (rw (count_of_map (λ (y : ProcessLine). y.class == x.class) k.processes)
-        (narrow.processes x.class (ltb-true x.class (length k.table) inside.1))))
+      (narrow.processes x.class (ltb-true x.class (length k.table) inside.1))))
 
   -- it is a thin configuration
   pub text_thin : IsThin here
@@ -73,22 +73,23 @@ module _ (k : ConfigText) (valid : IsValid k) (narrow : IsNarrow k) where
     processors = narrow.processor;
     records = refl;
     scripts = list_all_to is_narrow_script (at_place simple_script) (λ x. Some (script_of_text x))
-      (λ x h. list_all_more is_narrow_instr is_simple narrow_simple x.program h) k.scripts narrow.instructions;
-    processes = list_all_to (text_process_ok k) (thin_line here) process_of_text line_thin k.processes valid.processes }
+        (λ x h. list_all_more is_narrow_instr is_simple narrow_simple x.program h) k.scripts narrow.instructions;
+    processes = list_all_to (text_process_ok k) (thin_line here) process_of_text line_thin k.processes valid.processes;
+  }
 
   uses_there : (xs : List ScriptText) (n d : ℕ) → option_map_or (λ (s : ScriptText). is_class k s.class && at_or_below k.table s.class d) (slice_get xs n) false ≡ true →
-    option_map_or (λ (s : Script). at_or_below k.table s.class d) (slice_index_or (map (λ x. Some (script_of_text x)) xs) n None) false ≡ true
+      option_map_or (λ (s : Script). at_or_below k.table s.class d) (slice_index_or (map (λ x. Some (script_of_text x)) xs) n None) false ≡ true
   uses_there [] n d h = h
   uses_there (x ∷ xs) zero d h = (and_parts _ _ h).1
   uses_there (x ∷ xs) (suc n) d h = uses_there xs n d h
 
   line_ok : (x : ProcessText) → text_process_ok k x ≡ true → process_ok here (process_of_text x) ≡ true
   line_ok x h =
-    let tests = and_parts _ _ h in
-    let inside = and_parts _ _ (and_parts _ _ tests.0).0 in
-    and_from _ _ (and_from _ _ tests.0 (uses_there k.scripts x.script x.class tests.1))
+      let tests = and_parts _ _ h in
+      let inside = and_parts _ _ (and_parts _ _ (and_parts _ _ h).0).0 in
+      and_from _ _ (and_from _ _ tests.0 (uses_there k.scripts x.script x.class tests.1))
       (le-leb _ 4 (rw (count_of_map (λ (y : ProcessLine). y.processor == x.processor && y.class == x.class) k.processes)
-        (valid.few_processes x.processor x.class (ltb-true x.processor k.processors inside.0) (ltb-true x.class (length k.table) inside.1))))
+      (valid.few_processes x.processor x.class (ltb-true x.processor k.processors inside.0) (ltb-true x.class (length k.table) inside.1))))
 
   pub text_processes : list_all (process_ok here) here.processes ≡ true
   text_processes = list_all_to (text_process_ok k) (process_ok here) process_of_text line_ok k.processes valid.processes
@@ -101,23 +102,23 @@ module _ (k : ConfigText) (valid : IsValid k) (narrow : IsNarrow k) where
   items_first : (place : ℕ) (items : List Item) → list_all is_narrow_item items ≡ true → list_all (item_ok k) items ≡ true → on_first (scheduled (shape_of k) place items) ≡ true
   items_first place [] h ok = refl
   items_first place (Events p c n ∷ items) h ok =
-    let tests = and_parts _ _ ok in
-    let inside = and_parts _ _ (and_parts _ _ tests.0).0 in
-    let few : p < k.processors = ltb-true p k.processors inside.0 in
-    let one : k.processors ≡ 1 = narrow.processor in
-    let p_zero : p ≡ 0 = omega arith in
-    list_all-append (λ (e : Event). e.processor == 0) (replicate n (event p c)) (scheduled (shape_of k) place items)
-    ∙ and_from _ _ (rw p_zero (all_zero n c)) (items_first place items h tests.1)
+      let tests = and_parts _ _ ok in
+      let inside = and_parts _ _ (and_parts _ _ tests.0).0 in
+      let few : p < k.processors = ltb-true p k.processors inside.0 in
+      let one : k.processors ≡ 1 = narrow.processor in
+      let p_zero : p ≡ 0 = omega arith in
+      list_all-append (λ (e : Event). e.processor == 0) (replicate n (event p c)) (scheduled (shape_of k) place items)
+      ∙ and_from _ _ (rw p_zero (all_zero n c)) (items_first place items h tests.1)
   items_first place (Mix x n ∷ items) h ok = cc
   items_first place (Sweep n ∷ items) h ok = cc
 
   items_length : (place : ℕ) (items : List Item) → list_all is_narrow_item items ≡ true → length (scheduled (shape_of k) place items) ≡ sum_by (item_events k) items
   items_length place [] h = refl
   items_length place (Events p c n ∷ items) h =
-    length-append (replicate n (event p c)) (scheduled (shape_of k) place items)
-    ∙ ap (λ z. z + length (scheduled (shape_of k) place items)) (length-replicate n (event p c))
-    ∙ ap (λ z. n + z) (items_length place items h)
-    ∙ sym (sum_by-cons (item_events k) (Events p c n) items)
+      length-append (replicate n (event p c)) (scheduled (shape_of k) place items)
+      ∙ ap (λ z. z + length (scheduled (shape_of k) place items)) (length-replicate n (event p c))
+      ∙ ap (λ z. n + z) (items_length place items h)
+      ∙ sym (sum_by-cons (item_events k) (Events p c n) items)
   items_length place (Mix x n ∷ items) h = cc
   items_length place (Sweep n ∷ items) h = cc
 

@@ -18,9 +18,9 @@ pub record ClassRun : Type 0 where
 -- out: the value is printed where a console place is left; a place is used up even where none is
 abbrev pub printed : ℕ → ClassRun → Process → ℕ → ClassRun
 printed console x p value =
-  if nat_lt x.used console
-  then record { process = Some (answered p x.used); lines = x.lines ++ value ∷ []; used = x.used + 1 }
-  else record { process = Some (refused p ConsoleFull); lines = x.lines; used = x.used + 1 }
+    if nat_lt x.used console
+    then record { process = Some (answered p x.used); lines = x.lines ++ value ∷ []; used = x.used + 1 }
+    else record { process = Some (refused p ConsoleFull); lines = x.lines; used = x.used + 1 }
 
 -- what the plan of its process does
 abbrev pub planned : ℕ → ClassRun → Process → Plan → ClassRun
@@ -45,7 +45,9 @@ class_after s d (suc n) x = class_after s d n (class_step s d x)
 abbrev pub class_opening : Config → ℕ → ClassRun
 class_opening k d = record {
   process = option_map (λ (l : ProcessLine). new_process d l.script l.ring 0) (find (λ (l : ProcessLine). l.class == d) k.processes);
-  lines = []; used = 0 }
+  lines = [];
+  used = 0;
+}
 
 abbrev pub seen_process : Option Process → List SeenProcess
 seen_process None = []

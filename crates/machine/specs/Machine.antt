@@ -74,7 +74,10 @@ lines_after s lines _ = lines
 -- the virtual processor with the process of slot i after its step
 abbrev pub vp_absorbed : Shared → VirtualProcessor → ℕ → Absorbed → VirtualProcessor
 vp_absorbed s v i x = record {
-  slots = slots_after (slice_set v.slots i (Some x.running)) x.made; current = slot_after i x.ending; lines = lines_after s v.lines x.made }
+  slots = slots_after (slice_set v.slots i (Some x.running)) x.made;
+  current = slot_after i x.ending;
+  lines = lines_after s v.lines x.made;
+}
 
 -- what the process that was chosen makes of the answer
 abbrev pub absorbed : Shared → ℕ → VirtualProcessor → ℕ → ℕ × Running → Absorbed
@@ -111,7 +114,8 @@ abbrev pub part_done : Shared → (ℕ → Words) → ℕ → ClassPart → ℕ 
 part_done s words d here p None = here
 part_done s words d here p (Some op) = record {
   words = words_after here.words op;
-  vp = put here.vp p (vp_after s d (here.vp p) (answer_to words d op)) }
+  vp = put here.vp p (vp_after s d (here.vp p) (answer_to words d op));
+}
 
 -- the part of class d after a step of its virtual processor on p, given the words of each class
 abbrev pub part_step : Shared → (ℕ → Words) → ℕ → ClassPart → ℕ → ClassPart
@@ -138,7 +142,7 @@ part_effect s words d here p = part_ends s words d here p (vp_op s d (here.vp p)
 -- the process, if any, whose instruction takes effect at an event
 abbrev pub effect_at : Machine → Event → List ProcName
 effect_at m e =
-  map (λ slot. record { processor = e.processor; class = e.class; slot = slot })
+    map (λ slot. record { processor = e.processor; class = e.class; slot = slot })
     (part_effect m.shared (words_of m) e.class (m.part e.class) e.processor)
 
 -- the order of effect of a list of events

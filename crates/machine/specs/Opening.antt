@@ -47,8 +47,14 @@ opening_guarded k c _ = 0
 -- the words of class c at the opening
 abbrev pub opening_words : Config → ℕ → Words
 opening_words k c = record {
-  started = λ g. 0; tickets = λ g. 0; finished = λ g. 0; places = 0; component = λ x u. 0; sequencer = λ u. 0;
-  guarded = opening_guarded k c }
+  started = λ g. 0;
+  tickets = λ g. 0;
+  finished = λ g. 0;
+  places = 0;
+  component = λ x u. 0;
+  sequencer = λ u. 0;
+  guarded = opening_guarded k c;
+}
 
 -- a process before its first step
 abbrev pub at_rest : Process → Running

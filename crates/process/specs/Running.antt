@@ -32,7 +32,7 @@ act s d ring (SwapOut k) = ClassTurn (swap_out_body (pool_of s d).pages k)
 act s d ring (Fetch k offset count pad) = Look k.class (OfSegment k.seg) (fetch_body k.seg offset count pad)
 act s d ring (Update k offset words) = SegmentTurn k.seg (update_body k.seg offset words)
 act s d ring (Read k wanted t) = let classes = components s.table k.class in
-  Once (read_op classes k t) (λ w. at_once (read_shows classes wanted t w))
+    Once (read_op classes k t) (λ w. at_once (read_shows classes wanted t w))
 act s d ring (Advance k) = Once (advance_op k) (λ w. at_once (advance_shows w))
 act s d ring (Ticket k) = Once (ticket_op k) (λ w. at_once (ticket_shows w))
 act s d ring (Out value) = Once out_op (λ w. at_once (out_shows s.console value w))
@@ -83,8 +83,11 @@ taken p (Some outcome) = settled p outcome
 -- the process after what a step told it: what takes effect settles it
 abbrev pub after_told : Process → Told Outcome → Absorbed
 after_told p told = record {
-  running = record { process = taken p told.takes; doing = told.doing }; ending = told.ending; effect = is_some told.takes;
-  made = made_of told.takes }
+  running = record { process = taken p told.takes; doing = told.doing };
+  ending = told.ending;
+  effect = is_some told.takes;
+  made = made_of told.takes;
+}
 
 -- an instruction that took effect at its one step
 abbrev pub ended_as : Process → Made → Absorbed

@@ -107,23 +107,23 @@ shape = record { processors = 2; classes = 2; cycle = 0 ∷ []; quantum = 1 }
 -- two processes, of class 0 and 1, each on a processor of its own
 abbrev pub side_by_side_scripts : List Instr → List Instr → Config
 side_by_side_scripts first second =
-  two_classes 2 (script 0 first ∷ script 1 second ∷ []) [] (process 0 0 0 4 ∷ process 1 1 1 4 ∷ [])
+    two_classes 2 (script 0 first ∷ script 1 second ∷ []) [] (process 0 0 0 4 ∷ process 1 1 1 4 ∷ [])
 
 -- a process of class 0 makes a segment of two words, brings it in, and writes 7 7 and then 8 8
 abbrev pub writes_twice : List Instr
 writes_twice = I.Set 5 511 ∷ I.Set 6 2 ∷ I.Create 2 2 2 5 6 ∷ I.Set 7 3 ∷ I.MakeKnown 2 2 7 ∷ I.Copy 8 1 ∷ I.SwapIn 8 ∷ I.Set 9 7 ∷
-  I.Put 9 2 ∷ I.Set 10 1 ∷ I.Put 9 10 ∷ I.Update 8 2 6 2 ∷ I.Set 9 8 ∷ I.Put 9 2 ∷ I.Put 9 10 ∷ I.Update 8 2 6 2 ∷ I.Halt ∷ []
+    I.Put 9 2 ∷ I.Set 10 1 ∷ I.Put 9 10 ∷ I.Update 8 2 6 2 ∷ I.Set 9 8 ∷ I.Put 9 2 ∷ I.Put 9 10 ∷ I.Update 8 2 6 2 ∷ I.Halt ∷ []
 
 -- a process of class 1 fetches both words and prints them
 unfoldable pub writer_and_reader : Config
 writer_and_reader = side_by_side_scripts writes_twice (
-  I.Set 7 1 ∷ I.MakeKnown 2 2 7 ∷ I.Copy 8 1 ∷ I.Set 6 2 ∷ I.Fetch 8 2 6 2 ∷ I.Get 9 2 ∷ I.Out 9 ∷ I.Set 10 1 ∷ I.Get 9 10 ∷
-  I.Out 9 ∷ I.Halt ∷ [])
+    I.Set 7 1 ∷ I.MakeKnown 2 2 7 ∷ I.Copy 8 1 ∷ I.Set 6 2 ∷ I.Fetch 8 2 6 2 ∷ I.Get 9 2 ∷ I.Out 9 ∷ I.Set 10 1 ∷ I.Get 9 10 ∷
+    I.Out 9 ∷ I.Halt ∷ [])
 
 -- the reader has loaded both words when the writer's second update begins and ends
 unfoldable pub update_within_look : List Event
 update_within_look =
-  events 0 0 46 ++ events 1 1 7 ++ events 1 1 4 ++ events 0 0 8 ++ events 1 1 2 ++ events 1 1 6 ++ events 1 1 6 ++ events 0 0 1
+    events 0 0 46 ++ events 1 1 7 ++ events 1 1 4 ++ events 0 0 8 ++ events 1 1 2 ++ events 1 1 6 ++ events 1 1 6 ++ events 0 0 1
 
 -- the reader's look is whole before the second update
 unfoldable pub look_before_update : List Event
@@ -136,14 +136,14 @@ update_left_unfinished = events 0 0 46 ++ events 1 1 7 ++ events 0 0 5 ++ events
 -- what class 0 prints where the writer has ended
 abbrev pub writer_ended : List ℕ
 writer_ended = text (codes "class 0 low" ∷ codes "process 0 0 ended script 0 place 16 ring 4" ∷
-  codes "regs 0 2 0 0 0 511 2 3 1 8 1 0 0 0 0 0" ∷ codes "closed" ∷
-  codes "segment 0 0 never writes 0 count 0 tickets 0" ∷ codes "entry 0 class 0 brackets 7 7 7 size 2 serial 1" ∷
-  codes "segment 0 1 in writes 2 count 0 tickets 0" ∷ codes "words 8 8" ∷ [])
+    codes "regs 0 2 0 0 0 511 2 3 1 8 1 0 0 0 0 0" ∷ codes "closed" ∷
+    codes "segment 0 0 never writes 0 count 0 tickets 0" ∷ codes "entry 0 class 0 brackets 7 7 7 size 2 serial 1" ∷
+    codes "segment 0 1 in writes 2 count 0 tickets 0" ∷ codes "words 8 8" ∷ [])
 
 -- what class 1 prints where the reader has read 8 8
 abbrev pub reader_ended : List ℕ
 reader_ended = text (codes "class 1 high" ∷ codes "line 8" ∷ codes "line 8" ∷
-  codes "process 1 0 ended script 1 place 10 ring 4" ∷ codes "regs 0 1 0 0 0 0 2 1 1 8 1 0 0 0 0 0" ∷ codes "closed" ∷ [])
+    codes "process 1 0 ended script 1 place 10 ring 4" ∷ codes "regs 0 1 0 0 0 0 2 1 1 8 1 0 0 0 0 0" ∷ codes "closed" ∷ [])
 
 -- the process of class 1 prints, is refused a fetch and a create, and begins again without end
 unfoldable pub writer_and_other : Config
@@ -161,16 +161,16 @@ rings = two_classes 4 (
     script 0 (I.Set 7 1 ∷ I.MakeKnown 2 2 7 ∷ I.Out 0 ∷ I.Call 0 ∷ I.Halt ∷ []) ∷
     script 0 (I.Call 0 ∷ I.Out 0 ∷ I.Halt ∷ []) ∷
     script 0 (I.MakeKnown 2 2 7 ∷ I.Out 0 ∷ I.Ret ∷ I.Halt ∷ []) ∷ [])
-  (gate 0 4 (record { r1 = 2; r2 = 4; r3 = 6 }) ∷ [])
-  (process 0 0 0 2 ∷ process 1 0 1 4 ∷ process 2 0 2 5 ∷ process 3 0 3 7 ∷ [])
+    (gate 0 4 (record { r1 = 2; r2 = 4; r3 = 6 }) ∷ [])
+    (process 0 0 0 2 ∷ process 1 0 1 4 ∷ process 2 0 2 5 ∷ process 3 0 3 7 ∷ [])
 
 -- class 0 writes, swaps out and brings another segment into the same frame
 unfoldable pub swaps_under_a_reader : Config
 swaps_under_a_reader = side_by_side_scripts
-  (I.Set 5 511 ∷ I.Set 6 2 ∷ I.Create 2 2 2 5 6 ∷ I.Set 7 3 ∷ I.MakeKnown 2 2 7 ∷ I.Copy 8 1 ∷ I.SwapIn 8 ∷ I.Set 9 7 ∷ I.Put 9 2 ∷
+    (I.Set 5 511 ∷ I.Set 6 2 ∷ I.Create 2 2 2 5 6 ∷ I.Set 7 3 ∷ I.MakeKnown 2 2 7 ∷ I.Copy 8 1 ∷ I.SwapIn 8 ∷ I.Set 9 7 ∷ I.Put 9 2 ∷
     I.Set 10 1 ∷ I.Put 9 10 ∷ I.Update 8 2 6 2 ∷ I.SwapOut 8 ∷ I.Create 2 10 2 5 6 ∷ I.MakeKnown 2 10 7 ∷ I.Copy 11 1 ∷ I.SwapIn 11 ∷
     I.Halt ∷ [])
-  (I.Set 7 1 ∷ I.MakeKnown 2 2 7 ∷ I.Copy 8 1 ∷ I.Set 6 2 ∷ I.Fetch 8 2 6 2 ∷ I.Out 0 ∷ I.Halt ∷ [])
+    (I.Set 7 1 ∷ I.MakeKnown 2 2 7 ∷ I.Copy 8 1 ∷ I.Set 6 2 ∷ I.Fetch 8 2 6 2 ∷ I.Out 0 ∷ I.Halt ∷ [])
 
 -- the reader has loaded the home and a word when the segment goes out and the other one comes in
 unfoldable pub swap_within_look : List Event
@@ -179,8 +179,8 @@ swap_within_look = events 0 0 43 ++ events 1 1 10 ++ events 0 0 45 ++ events 1 1
 -- class 0 makes a segment of class 1 and deletes it while a process of class 1 uses it
 unfoldable pub withdraws : Config
 withdraws = side_by_side_scripts
-  (I.Set 4 1 ∷ I.Set 5 511 ∷ I.Set 6 2 ∷ I.Create 2 2 4 5 6 ∷ I.Delete 2 2 ∷ I.Out 0 ∷ I.Halt ∷ [])
-  (I.Set 7 3 ∷ I.MakeKnown 2 2 7 ∷ I.Copy 8 1 ∷ I.Set 6 2 ∷ I.SwapIn 8 ∷ I.Set 9 9 ∷ I.Put 9 2 ∷ I.Update 8 2 6 2 ∷
+    (I.Set 4 1 ∷ I.Set 5 511 ∷ I.Set 6 2 ∷ I.Create 2 2 4 5 6 ∷ I.Delete 2 2 ∷ I.Out 0 ∷ I.Halt ∷ [])
+    (I.Set 7 3 ∷ I.MakeKnown 2 2 7 ∷ I.Copy 8 1 ∷ I.Set 6 2 ∷ I.SwapIn 8 ∷ I.Set 9 9 ∷ I.Put 9 2 ∷ I.Update 8 2 6 2 ∷
     I.Fetch 8 2 6 2 ∷ I.Get 9 2 ∷ I.Out 9 ∷ I.MakeKnown 2 2 7 ∷ I.Out 0 ∷ I.Halt ∷ [])
 
 -- it is deleted between two steps of the process that uses it
@@ -190,39 +190,39 @@ withdrawn_in_use = events 0 0 12 ++ events 1 1 31 ++ events 0 0 8 ++ events 1 1 
 -- the root's eventcount is awaited at 0, at 1, and at the greatest number
 unfoldable pub awaits : Config
 awaits = alone (I.Await 2 2 ∷ I.Out 1 ∷ I.Advance 2 ∷ I.Set 3 1 ∷ I.Await 2 3 ∷ I.Out 1 ∷ I.Set 3 18446744073709551615 ∷ I.Await 2 3 ∷
-  I.Halt ∷ [])
+    I.Halt ∷ [])
 
 -- a process of class 1 wants to modify a segment of class 0, then observes it and wants to swap it in
 unfoldable pub reader_wants_to_write : Config
 reader_wants_to_write = side_by_side_scripts writes_twice
-  (I.Set 7 3 ∷ I.MakeKnown 2 2 7 ∷ I.Out 0 ∷ I.Set 7 1 ∷ I.MakeKnown 2 2 7 ∷ I.SwapIn 1 ∷ I.Out 0 ∷ I.Halt ∷ [])
+    (I.Set 7 3 ∷ I.MakeKnown 2 2 7 ∷ I.Out 0 ∷ I.Set 7 1 ∷ I.MakeKnown 2 2 7 ∷ I.SwapIn 1 ∷ I.Out 0 ∷ I.Halt ∷ [])
 
 -- class 0 has two segments in frames: one is updated while the other one is read
 unfoldable pub two_segments : Config
 two_segments = two_classes 3 (script 0 writes_twice ∷
-  script 1 (I.Set 7 1 ∷ I.Set 3 1 ∷ I.MakeKnown 2 3 7 ∷ I.Copy 8 1 ∷ I.Fetch 8 2 3 2 ∷ I.Out 0 ∷ I.Halt ∷ []) ∷
-  script 0 (I.Set 3 1 ∷ I.Set 5 511 ∷ I.Set 7 3 ∷ I.Create 2 3 2 5 3 ∷ I.MakeKnown 2 3 7 ∷ I.SwapIn 1 ∷ I.Halt ∷ []) ∷ []) []
-  (process 0 0 0 4 ∷ process 1 1 1 4 ∷ process 2 0 2 4 ∷ [])
+    script 1 (I.Set 7 1 ∷ I.Set 3 1 ∷ I.MakeKnown 2 3 7 ∷ I.Copy 8 1 ∷ I.Fetch 8 2 3 2 ∷ I.Out 0 ∷ I.Halt ∷ []) ∷
+    script 0 (I.Set 3 1 ∷ I.Set 5 511 ∷ I.Set 7 3 ∷ I.Create 2 3 2 5 3 ∷ I.MakeKnown 2 3 7 ∷ I.SwapIn 1 ∷ I.Halt ∷ []) ∷ []) []
+    (process 0 0 0 4 ∷ process 1 1 1 4 ∷ process 2 0 2 4 ∷ [])
 
 -- the update of the one segment stands whole within the look at the other one
 unfoldable pub update_elsewhere_within_look : List Event
 update_elsewhere_within_look = events 2 0 30 ++ events 0 0 47 ++ events 1 1 7 ++ events 1 1 3 ++ events 0 0 8 ++ events 1 1 2 ++
-  events 1 1 2 ++ events 0 0 1
+    events 1 1 2 ++ events 0 0 1
 
 -- class 0 makes a segment of class 1, advances it twice and wants to read it
 abbrev pub signals_up : List Instr
 signals_up = I.Set 4 1 ∷ I.Set 5 511 ∷ I.Set 6 2 ∷ I.Create 2 2 4 5 6 ∷ I.Set 7 2 ∷ I.MakeKnown 2 2 7 ∷ I.Copy 8 1 ∷ I.Advance 8 ∷
-  I.Out 1 ∷ I.Advance 8 ∷ I.Out 1 ∷ I.Read 8 ∷ I.Out 0 ∷ I.Halt ∷ []
+    I.Out 1 ∷ I.Advance 8 ∷ I.Out 1 ∷ I.Read 8 ∷ I.Out 0 ∷ I.Halt ∷ []
 
 -- class 1 advances it too and awaits 3
 unfoldable pub signals_and_awaits : Config
 signals_and_awaits = side_by_side_scripts signals_up
-  (I.Set 7 3 ∷ I.MakeKnown 2 2 7 ∷ I.Copy 8 1 ∷ I.Advance 8 ∷ I.Out 1 ∷ I.Set 3 3 ∷ I.Await 8 3 ∷ I.Out 1 ∷ I.Halt ∷ [])
+    (I.Set 7 3 ∷ I.MakeKnown 2 2 7 ∷ I.Copy 8 1 ∷ I.Advance 8 ∷ I.Out 1 ∷ I.Set 3 3 ∷ I.Await 8 3 ∷ I.Out 1 ∷ I.Halt ∷ [])
 
 -- class 1 reads it
 unfoldable pub signals_and_reads : Config
 signals_and_reads = side_by_side_scripts signals_up
-  (I.Set 7 1 ∷ I.MakeKnown 2 2 7 ∷ I.Copy 8 1 ∷ I.Read 8 ∷ I.Out 1 ∷ I.Halt ∷ [])
+    (I.Set 7 1 ∷ I.MakeKnown 2 2 7 ∷ I.Copy 8 1 ∷ I.Read 8 ∷ I.Out 1 ∷ I.Halt ∷ [])
 
 -- the reader looks at the component of class 0 before the signals come
 unfoldable pub signals_within_read : List Event
@@ -231,17 +231,18 @@ signals_within_read = events 0 0 18 ++ events 1 1 7 ++ events 0 0 4 ++ events 1 
 -- a process of class 1 wants to signal a segment of class 0
 unfoldable pub signals_down : Config
 signals_down = side_by_side_scripts
-  (I.Set 5 511 ∷ I.Set 6 1 ∷ I.Create 2 2 2 5 6 ∷ I.Halt ∷ []) (I.Set 7 2 ∷ I.MakeKnown 2 2 7 ∷ I.Out 0 ∷ I.Halt ∷ [])
+    (I.Set 5 511 ∷ I.Set 6 1 ∷ I.Create 2 2 2 5 6 ∷ I.Halt ∷ []) (I.Set 7 2 ∷ I.MakeKnown 2 2 7 ∷ I.Out 0 ∷ I.Halt ∷ [])
 
 -- one refusal after the other, of a class without pages
 unfoldable pub refusals : Config
 refusals = record (alone (I.Set 3 1 ∷ I.Set 4 8 ∷ I.Set 5 511 ∷ I.Set 15 99 ∷
-  I.Terminate 15 ∷ I.Out 0 ∷ I.MakeKnown 2 15 3 ∷ I.Out 0 ∷ I.MakeKnown 2 2 15 ∷ I.Out 0 ∷
-  I.Create 2 2 15 5 3 ∷ I.Out 0 ∷ I.Create 2 2 2 4 3 ∷ I.Out 0 ∷ I.Create 2 2 2 5 15 ∷ I.Out 0 ∷
-  I.Create 2 2 2 5 3 ∷ I.Create 2 2 2 5 3 ∷ I.Out 0 ∷
-  I.Set 7 3 ∷ I.MakeKnown 2 2 7 ∷ I.Copy 8 1 ∷ I.SwapIn 8 ∷ I.SwapIn 8 ∷ I.Out 0 ∷ I.SwapOut 8 ∷ I.Out 0 ∷
-  I.Create 8 2 2 5 3 ∷ I.Delete 2 2 ∷ I.Out 0 ∷ I.Delete 8 2 ∷ I.Delete 2 2 ∷ I.SwapIn 8 ∷ I.Out 0 ∷ I.Halt ∷ [])) {
-  pools = record { frames = 2; pages = 0 } ∷ record { frames = 2; pages = 2 } ∷ [] }
+    I.Terminate 15 ∷ I.Out 0 ∷ I.MakeKnown 2 15 3 ∷ I.Out 0 ∷ I.MakeKnown 2 2 15 ∷ I.Out 0 ∷
+    I.Create 2 2 15 5 3 ∷ I.Out 0 ∷ I.Create 2 2 2 4 3 ∷ I.Out 0 ∷ I.Create 2 2 2 5 15 ∷ I.Out 0 ∷
+    I.Create 2 2 2 5 3 ∷ I.Create 2 2 2 5 3 ∷ I.Out 0 ∷
+    I.Set 7 3 ∷ I.MakeKnown 2 2 7 ∷ I.Copy 8 1 ∷ I.SwapIn 8 ∷ I.SwapIn 8 ∷ I.Out 0 ∷ I.SwapOut 8 ∷ I.Out 0 ∷
+    I.Create 8 2 2 5 3 ∷ I.Delete 2 2 ∷ I.Out 0 ∷ I.Delete 8 2 ∷ I.Delete 2 2 ∷ I.SwapIn 8 ∷ I.Out 0 ∷ I.Halt ∷ [])) {
+      pools = record { frames = 2; pages = 0 } ∷ record { frames = 2; pages = 2 } ∷ [];
+    }
 
 -- a segment is made known until no place is left
 unfoldable pub fills_known_table : Config
@@ -250,8 +251,9 @@ fills_known_table = alone (I.Set 5 511 ∷ I.Set 6 1 ∷ I.Create 2 2 2 5 6 ∷ 
 -- a class of lower integrity wants to modify a segment of class 0
 unfoldable pub writes_up_in_integrity : Config
 writes_up_in_integrity = record (side_by_side_scripts
-  (I.Set 5 511 ∷ I.Set 6 1 ∷ I.Create 2 2 2 5 6 ∷ I.Halt ∷ []) (I.Set 7 3 ∷ I.MakeKnown 2 2 7 ∷ I.Out 0 ∷ I.Halt ∷ [])) {
-  table = low ∷ class_entry (codes "high") 0 0 3 0 ∷ [] }
+    (I.Set 5 511 ∷ I.Set 6 1 ∷ I.Create 2 2 2 5 6 ∷ I.Halt ∷ []) (I.Set 7 3 ∷ I.MakeKnown 2 2 7 ∷ I.Out 0 ∷ I.Halt ∷ [])) {
+      table = low ∷ class_entry (codes "high") 0 0 3 0 ∷ [];
+    }
 
 -- ring 4 wants to modify a segment with brackets 2 4 6
 unfoldable pub writes_from_outer_ring : Config
@@ -260,8 +262,8 @@ writes_from_outer_ring = alone (I.Set 5 166 ∷ I.Set 6 1 ∷ I.Create 2 2 2 5 6
 -- two processes of one virtual processor: the first awaits what the second one signals
 unfoldable pub polls_and_frees : Config
 polls_and_frees = two_classes 1 (
-  script 0 (I.Set 3 1 ∷ I.Await 2 3 ∷ I.Out 1 ∷ I.Halt ∷ []) ∷ script 0 (I.Set 4 7 ∷ I.Out 4 ∷ I.Advance 2 ∷ I.Halt ∷ []) ∷ []) []
-  (process 0 0 0 4 ∷ process 0 0 1 4 ∷ [])
+    script 0 (I.Set 3 1 ∷ I.Await 2 3 ∷ I.Out 1 ∷ I.Halt ∷ []) ∷ script 0 (I.Set 4 7 ∷ I.Out 4 ∷ I.Advance 2 ∷ I.Halt ∷ []) ∷ []) []
+    (process 0 0 0 4 ∷ process 0 0 1 4 ∷ [])
 
 -- no words are fetched from the root
 unfoldable pub fetches_nothing : Config

@@ -47,21 +47,30 @@ word_count m x u = sum (map (λ c. (words_of m c).component x u) (components m.s
 -- a segment that has been touched
 abbrev pub is_touched : Machine → ℕ → SegId → Bool
 is_touched m c u = let w = (words_of m c).guarded in
-  not (is_never (home_of (w (HomeOf u)))) || nat_lt 0 (w (WritesOf u)) || nat_lt 0 (word_count m c u) || nat_lt 0 ((words_of m c).sequencer u) ||
-  list_any (λ e. is_some e) (entries_of m.shared w u)
+    not (is_never (home_of (w (HomeOf u)))) || nat_lt 0 (w (WritesOf u)) || nat_lt 0 (word_count m c u) || nat_lt 0 ((words_of m c).sequencer u) ||
+    list_any (λ e. is_some e) (entries_of m.shared w u)
 
 -- what is seen of a segment
 abbrev pub word_segment : Machine → ℕ → SegId → SeenSegment
 word_segment m c u = let w = (words_of m c).guarded in record {
-  seg = u; home = home_text (home_of (w (HomeOf u))); writes = w (WritesOf u); count = word_count m c u;
-  tickets = (words_of m c).sequencer u; words = home_words w (home_of (w (HomeOf u))); entries = seen_entries (entries_of m.shared w u) }
+  seg = u;
+  home = home_text (home_of (w (HomeOf u)));
+  writes = w (WritesOf u);
+  count = word_count m c u;
+  tickets = (words_of m c).sequencer u;
+  words = home_words w (home_of (w (HomeOf u)));
+  entries = seen_entries (entries_of m.shared w u);
+}
 
 -- what is seen of class c
 abbrev pub seen : ℕ → Machine → Seen
 seen c m = let part = m.part c in record {
-  class = c; name = (class_at m.shared.table c).name; lines = printed m.shared part;
+  class = c;
+  name = (class_at m.shared.table c).name;
+  lines = printed m.shared part;
   processes = seen_processes (λ p. processes_of (part.vp p));
-  segments = map (word_segment m c) (filter (is_touched m c) (identities (classes m.shared))) }
+  segments = map (word_segment m c) (filter (is_touched m c) (identities (classes m.shared)));
+}
 
 -- the report of class c
 abbrev pub section : ℕ → Machine → List ℕ

@@ -19,12 +19,12 @@ drawn x = (x * 6364136223846793005 + 1442695040888963407) % 2 ^ 64
 abbrev pub mixed : (processors classes : ℕ) → ℕ → ℕ → List Event
 mixed processors classes x zero = []
 mixed processors classes x (suc count) =
-  event (drawn x / 2 ^ 33 % processors) (drawn x / 2 ^ 48 % classes) ∷ mixed processors classes (drawn x) count
+    event (drawn x / 2 ^ 33 % processors) (drawn x / 2 ^ 48 % classes) ∷ mixed processors classes (drawn x) count
 
 -- a round from the place in the cycle that each processor has reached: a quantum of each processor, one after the other
 abbrev pub swept_round : (processors quantum : ℕ) → List ℕ → ℕ → List Event
 swept_round processors quantum cycle place =
-  flat_map (λ p. map (λ k. event p (slice_index cycle ((place + k) % length cycle))) (below quantum)) (below processors)
+    flat_map (λ p. map (λ k. event p (slice_index cycle ((place + k) % length cycle))) (below quantum)) (below processors)
 
 -- the header that a schedule needs
 pub record Shape : Type 0 where
@@ -37,7 +37,7 @@ pub record Shape : Type 0 where
 abbrev pub swept : Shape → ℕ → ℕ → List Event
 swept shape place zero = []
 swept shape place (suc rounds) =
-  swept_round shape.processors shape.quantum shape.cycle place ++ swept shape (place + shape.quantum) rounds
+    swept_round shape.processors shape.quantum shape.cycle place ++ swept shape (place + shape.quantum) rounds
 
 -- the events of the items, where each processor stands at this place of its cycle; only a sweep moves it
 abbrev pub scheduled : Shape → ℕ → List Item → List Event

@@ -167,12 +167,14 @@ class_of-address c w h = class_of-sum c (offset w) (offset_limit w h)
 
 -- different words have different addresses
 pub addresses_apart : (c d : ℕ) (v w : Word) → word_in_limits v ≡ true → word_in_limits w ≡ true → address c v ≡ address d w → (c ≡ d) × (v ≡ w)
-addresses_apart c d v w hv hw e =
-    (same_class c d (offset v) (offset w) (offset_limit v hv) (offset_limit w hw) e,
-     sym (word_of-offset v hv) ∙ ap word_of (same_offset c d (offset v) (offset w) (offset_limit v hv) (offset_limit w hw) e) ∙ word_of-offset w hw)
+addresses_apart c d v w hv hw e = (
+  same_class c d (offset v) (offset w) (offset_limit v hv) (offset_limit w hw) e,
+  sym (word_of-offset v hv) ∙ ap word_of (same_offset c d (offset v) (offset w) (offset_limit v hv) (offset_limit w hw) e) ∙ word_of-offset w hw,
+)
   where
     same_class : (c d a b : ℕ) → a < 34869 → b < 34869 → 34869 * c + a ≡ 34869 * d + b → c ≡ d
     same_class c d a b x y e = omega arith
+
     same_offset : (c d a b : ℕ) → a < 34869 → b < 34869 → 34869 * c + a ≡ 34869 * d + b → a ≡ b
     same_offset c d a b x y e = omega arith
 

@@ -48,7 +48,8 @@ module _ (ws : List ℕ) (c : ℕ) (w : Word) (x : ℕ) (named : word_in_limits 
     places = (other d Places (λ e _. apart e)) k;
     component = λ y u. (other d (ComponentOf y u) (λ e _. apart e)) k;
     sequencer = λ u. (other d (SequencerOf u) (λ e _. apart e)) k;
-    guarded = λ v. (other d (Guarded v) (λ e _. apart e)) k }
+    guarded = λ v. (other d (Guarded v) (λ e _. apart e)) k;
+  }
 
   -- another word of the class itself
   own : (v : Word) → (v ≡ w → ⊥) → word_in (set ws (address c w) x) c v ≡ word_in ws c v
@@ -88,7 +89,8 @@ own_words ws c (Started h) x l fits = λ k. record {
   places = (own ws c (Started h) x l fits Places (λ e. cc)) k;
   component = λ y v. (own ws c (Started h) x l fits (ComponentOf y v) (λ e. cc)) k;
   sequencer = λ v. (own ws c (Started h) x l fits (SequencerOf v) (λ e. cc)) k;
-  guarded = λ v. (own ws c (Started h) x l fits (Guarded v) (λ e. cc)) k }
+  guarded = λ v. (own ws c (Started h) x l fits (Guarded v) (λ e. cc)) k;
+}
 own_words ws c (Tickets h) x l fits = λ k. record {
   started = λ g. (own ws c (Tickets h) x l fits (Started g) (λ e. cc)) k;
   tickets = λ g. (tested ws c (Tickets h) x l fits (Tickets g) (same_guard g h) (λ e. ap Tickets (same_guard-true g h e)) (λ e. let same : g ≡ h = cc in guard_same g h same)) k;
@@ -96,7 +98,8 @@ own_words ws c (Tickets h) x l fits = λ k. record {
   places = (own ws c (Tickets h) x l fits Places (λ e. cc)) k;
   component = λ y v. (own ws c (Tickets h) x l fits (ComponentOf y v) (λ e. cc)) k;
   sequencer = λ v. (own ws c (Tickets h) x l fits (SequencerOf v) (λ e. cc)) k;
-  guarded = λ v. (own ws c (Tickets h) x l fits (Guarded v) (λ e. cc)) k }
+  guarded = λ v. (own ws c (Tickets h) x l fits (Guarded v) (λ e. cc)) k;
+}
 own_words ws c (Finished h) x l fits = λ k. record {
   started = λ g. (own ws c (Finished h) x l fits (Started g) (λ e. cc)) k;
   tickets = λ g. (own ws c (Finished h) x l fits (Tickets g) (λ e. cc)) k;
@@ -104,7 +107,8 @@ own_words ws c (Finished h) x l fits = λ k. record {
   places = (own ws c (Finished h) x l fits Places (λ e. cc)) k;
   component = λ y v. (own ws c (Finished h) x l fits (ComponentOf y v) (λ e. cc)) k;
   sequencer = λ v. (own ws c (Finished h) x l fits (SequencerOf v) (λ e. cc)) k;
-  guarded = λ v. (own ws c (Finished h) x l fits (Guarded v) (λ e. cc)) k }
+  guarded = λ v. (own ws c (Finished h) x l fits (Guarded v) (λ e. cc)) k;
+}
 own_words ws c Places x l fits = λ k. record {
   started = λ g. (own ws c Places x l fits (Started g) (λ e. cc)) k;
   tickets = λ g. (own ws c Places x l fits (Tickets g) (λ e. cc)) k;
@@ -112,7 +116,8 @@ own_words ws c Places x l fits = λ k. record {
   places = (stored ws c Places x l fits) k;
   component = λ y v. (own ws c Places x l fits (ComponentOf y v) (λ e. cc)) k;
   sequencer = λ v. (own ws c Places x l fits (SequencerOf v) (λ e. cc)) k;
-  guarded = λ v. (own ws c Places x l fits (Guarded v) (λ e. cc)) k }
+  guarded = λ v. (own ws c Places x l fits (Guarded v) (λ e. cc)) k;
+}
 own_words ws c (ComponentOf z u) x l fits = λ k. record {
   started = λ g. (own ws c (ComponentOf z u) x l fits (Started g) (λ e. cc)) k;
   tickets = λ g. (own ws c (ComponentOf z u) x l fits (Tickets g) (λ e. cc)) k;
@@ -120,7 +125,8 @@ own_words ws c (ComponentOf z u) x l fits = λ k. record {
   places = (own ws c (ComponentOf z u) x l fits Places (λ e. cc)) k;
   component = λ y v. (component_after ws c z u x l fits y v) k;
   sequencer = λ v. (own ws c (ComponentOf z u) x l fits (SequencerOf v) (λ e. cc)) k;
-  guarded = λ v. (own ws c (ComponentOf z u) x l fits (Guarded v) (λ e. cc)) k }
+  guarded = λ v. (own ws c (ComponentOf z u) x l fits (Guarded v) (λ e. cc)) k;
+}
 own_words ws c (SequencerOf u) x l fits = λ k. record {
   started = λ g. (own ws c (SequencerOf u) x l fits (Started g) (λ e. cc)) k;
   tickets = λ g. (own ws c (SequencerOf u) x l fits (Tickets g) (λ e. cc)) k;
@@ -128,7 +134,8 @@ own_words ws c (SequencerOf u) x l fits = λ k. record {
   places = (own ws c (SequencerOf u) x l fits Places (λ e. cc)) k;
   component = λ y v. (own ws c (SequencerOf u) x l fits (ComponentOf y v) (λ e. cc)) k;
   sequencer = λ v. (tested ws c (SequencerOf u) x l fits (SequencerOf v) (same_seg v u) (λ e. ap SequencerOf (same_seg-true v u e)) (λ e. let same : v ≡ u = cc in seg_same v u same)) k;
-  guarded = λ v. (own ws c (SequencerOf u) x l fits (Guarded v) (λ e. cc)) k }
+  guarded = λ v. (own ws c (SequencerOf u) x l fits (Guarded v) (λ e. cc)) k;
+}
 own_words ws c (Guarded q) x l fits = λ k. record {
   started = λ g. (own ws c (Guarded q) x l fits (Started g) (λ e. cc)) k;
   tickets = λ g. (own ws c (Guarded q) x l fits (Tickets g) (λ e. cc)) k;
@@ -136,7 +143,8 @@ own_words ws c (Guarded q) x l fits = λ k. record {
   places = (own ws c (Guarded q) x l fits Places (λ e. cc)) k;
   component = λ y v. (own ws c (Guarded q) x l fits (ComponentOf y v) (λ e. cc)) k;
   sequencer = λ v. (own ws c (Guarded q) x l fits (SequencerOf v) (λ e. cc)) k;
-  guarded = λ v. (tested ws c (Guarded q) x l fits (Guarded v) (same_word v q) (λ e. ap Guarded (same_word-true v q e)) (λ e. let same : v ≡ q = cc in word_same v q same)) k }
+  guarded = λ v. (tested ws c (Guarded q) x l fits (Guarded v) (same_word v q) (λ e. ap Guarded (same_word-true v q e)) (λ e. let same : v ≡ q = cc in word_same v q same)) k;
+}
 
 -- a store of a named word
 stored_by_name : (classes d : ℕ) (w : Word) (x : ℕ) (ws : List ℕ) → length ws ≡ 34869 * classes → d < classes → word_in_limits w ≡ true →
@@ -151,22 +159,31 @@ stored_by_name classes d w x ws long within h =
 pub operations_go_by_name : (classes d : ℕ) (op : WordOp) (before : List ℕ) (answer : ℕ) (after : List ℕ) → length before ≡ 34869 * classes → d < classes → op_in_limits classes op ≡ true →
     Performed before (op_at d op) answer after → PerformedByName before d op answer after
 operations_go_by_name classes d Nothing before answer after long within h p = record {
-  answered = p.answered; own = ap (λ ws. words_in ws d) p.done; others = λ c _. ap (λ ws. words_in ws c) p.done }
+  answered = p.answered;
+  own = ap (λ ws. words_in ws d) p.done;
+  others = λ c _. ap (λ ws. words_in ws c) p.done;
+}
 operations_go_by_name classes d (Load class w) before answer after long within h p =
     let parts = and_parts (nat_lt class classes) (word_in_limits w) h in record {
       answered = p.answered ∙ sym (word_in-limits before class w parts.1) ∙ sym (word_at-words_in before class w);
-      own = ap (λ ws. words_in ws d) p.done; others = λ c _. ap (λ ws. words_in ws c) p.done }
+      own = ap (λ ws. words_in ws d) p.done;
+      others = λ c _. ap (λ ws. words_in ws c) p.done;
+    }
 operations_go_by_name classes d (Store w v) before answer after long within h p =
     let done = stored_by_name classes d w v before long within h in record {
       answered = p.answered;
-      own = ap (λ ws. words_in ws d) p.done ∙ done.0; others = λ c apart. ap (λ ws. words_in ws c) p.done ∙ done.1 c apart }
+      own = ap (λ ws. words_in ws d) p.done ∙ done.0;
+      others = λ c apart. ap (λ ws. words_in ws c) p.done ∙ done.1 c apart;
+    }
 operations_go_by_name classes d (Add w v) before answer after long within h p =
     let read : get_or before (address d w) 0 ≡ word_at (words_in before d) w = sym (word_in-limits before d w h) ∙ sym (word_at-words_in before d w) in
     let sum = (word_at (words_in before d) w + v) % 2 ^ 64 in
     let now : after ≡ set before (address d w) sum = p.done ∙ ap (λ n. set before (address d w) ((n + v) % 2 ^ 64)) read in
     let done = stored_by_name classes d w sum before long within h in record {
       answered = p.answered ∙ read;
-      own = ap (λ ws. words_in ws d) now ∙ done.0; others = λ c apart. ap (λ ws. words_in ws c) now ∙ done.1 c apart }
+      own = ap (λ ws. words_in ws d) now ∙ done.0;
+      others = λ c apart. ap (λ ws. words_in ws c) now ∙ done.1 c apart;
+    }
 
 pub named_operations_are_within : (classes d : ℕ) (op : WordOp) → d < classes → op_in_limits classes op ≡ true → IsWithin classes (op_at d op)
 named_operations_are_within classes d Nothing within h = tt
@@ -180,6 +197,7 @@ fresh_words_are_zero count class word = by (word_in_limits word) refl
   where
     zero_at : (n a : ℕ) → get_or {A = ℕ} (replicate n 0) a 0 ≡ 0
     zero_at n a = ⊎_elim (λ below. get_or-replicate {A = ℕ} n a 0 0 below) (λ past. get_or_past {X = ℕ} (replicate n 0) a 0 (omega (arith, length-replicate {A = ℕ} n 0, past))) (cases_lt a n)
+
     by : (b : Bool) → word_in_limits word ≡ b → word_in (replicate count 0) class word ≡ 0
     by true h = rw h (zero_at count (address class word))
     by false h = rw h refl

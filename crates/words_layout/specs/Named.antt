@@ -20,7 +20,8 @@ words_in ws class = record {
   places = word_in ws class Places;
   component = λ x u. word_in ws class (ComponentOf x u);
   sequencer = λ u. word_in ws class (SequencerOf u);
-  guarded = λ w. word_in ws class (Guarded w) }
+  guarded = λ w. word_in ws class (Guarded w);
+}
 
 -- the address of a word
 abbrev pub addr_of : ℕ → Word → Addr

@@ -15,7 +15,10 @@ pub enum Home {
     /// Never swapped in.
     Never,
     /// In a page, with so many words.
-    Stored { page: u8, size: u8 },
+    Stored {
+        page: u8,
+        size: u8,
+    },
     /// In a frame, perhaps with a page besides.
     Resident {
         frame: u8,

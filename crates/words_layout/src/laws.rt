@@ -9,20 +9,17 @@ pub fn address_laws()
     ensures apart { DifferentWordsAreApart }
     ensures class { AddressesTellTheClass }
     ensures within { AddressesAreWithin }
-{
-}
+{}
 
 /// What is packed is unpacked to the same value, where it has a spelling.
 pub fn spelling_laws()
     ensures homes { HomesComeBack }
     ensures entries { EntriesComeBack }
-{
-}
+{}
 
 /// An operation on the list of all words is the named operation on the words of a class; fresh words are all 0.
 pub fn naming_laws()
     ensures by_name { OperationsGoByName }
     ensures within { NamedOperationsAreWithin }
     ensures fresh { FreshWordsAreZero }
-{
-}
+{}

@@ -18,6 +18,7 @@ returns c =
     let p8 : c.have_no_volume.result ≡ no_volumes k = c.have_no_volume.ensures ∙ rw c.as_slice-5.ensures refl in
     let few = simp c.as_slice-4.ensures at c.are_few.ensures in
     let each = simp (c.as_slice-6.ensures, c.count-2.ensures) at c.has_one_of_each.ensures in
-    let e : c.all_hold.result ≡ list_all (λ b. b) (checks k c.has_names.result c.are_few.result c.has_one_of_each.result) = c.all_hold.ensures ∙ rw (p1, p2, p3, p4, p5, p6, p7, p8) refl in
-    (λ t. checked k c.has_names.result c.are_few.result c.has_one_of_each.result c.has_names.ensures few each c.table_law.ensures c.requires (sym e ∙ t),
-     λ v. e ∙ checks_hold k c.has_names.result c.are_few.result c.has_one_of_each.result c.has_names.ensures few each v)
+    let e : c.all_hold.result ≡ list_all (λ b. b) (checks k c.has_names.result c.are_few.result c.has_one_of_each.result) = c.all_hold.ensures ∙ rw (p1, p2, p3, p4, p5, p6, p7, p8) refl in (
+      λ t. checked k c.has_names.result c.are_few.result c.has_one_of_each.result c.has_names.ensures few each c.table_law.ensures c.requires (sym e ∙ t),
+      λ v. e ∙ checks_hold k c.has_names.result c.are_few.result c.has_one_of_each.result c.has_names.ensures few each v,
+    )
