@@ -25,6 +25,7 @@ is_narrow_instr _ = false
 abbrev pub is_narrow_script : Script → Bool
 is_narrow_script s = list_all is_narrow_instr s.program
 
+-- so many events of one virtual processor
 abbrev pub is_narrow_item : Item → Bool
 is_narrow_item (item.Events p c n) = true
 is_narrow_item _ = false

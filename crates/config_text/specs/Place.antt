@@ -12,6 +12,7 @@ use Rattle.config_text.specs.declared.draft.Stage.{Stage}
 use Rattle.config_text.specs.declared.draft.Stage.TheVariants as stage
 use Rattle.config_text.specs.declared.draft.Draft.{Draft}
 
+-- what the lines so far say, and which line comes next
 pub record Place : Type 0 where
   -- which line comes next
   pub stage : Stage

@@ -24,6 +24,7 @@ use Rattle.config_text.specs.declared.fault.Refusal.{Refusal}
 use Rattle.config_text.specs.declared.fault.Refusal.TheVariants as refusal
 use Rattle.config_text.specs.Place.{Place}
 
+-- a word as its bytes
 abbrev pub Text : Type 0
 Text = List ℕ
 
@@ -61,6 +62,7 @@ bytes_from seen (w ∷ ws) = value_below 256 w >>= λ n. bytes_from (seen ++ n �
 abbrev pub entry_in : Text → Text → Option ClassEntry
 entry_in name label = if is_name name then option_map (λ (l : Label). record { name = name; label = l }) (label_of_text label) else None
 
+-- the pool that the words of a class line name
 abbrev pub pool_in : Text → Text → Text → Option Pool
 pool_in frames pages volume = do
   f ← value_below 256 frames
@@ -68,6 +70,7 @@ pool_in frames pages volume = do
   v ← value_below 256 volume
   Some (record { frames = f; pages = g; volume = v })
 
+-- the process that the words of a process line name
 abbrev pub process_in : Text → Text → Text → Text → Option ProcessLine
 process_in processor class script ring = do
   p ← value_below 256 processor
@@ -88,6 +91,7 @@ event_in word = do
 
 -- ---- lines
 
+-- which line comes after a class line, where so many are still to come
 abbrev pub after_class : ℕ → Stage
 after_class due = if due == 0 then stage.Processors else stage.Classes
 
@@ -96,33 +100,41 @@ abbrev pub with_class : Place → Option ClassEntry → Option Pool → Option P
 with_class p (Some e) (Some o) = Some (record p { stage = after_class (p.due - 1); due = p.due - 1; table = p.table ++ e ∷ []; pools = p.pools ++ o ∷ [] })
 with_class p _ _ = None
 
+-- the place after the header line
 abbrev pub header_step : Place → List Text → Option Place
 header_step p ws = Some (record p { stage = stage.Count })
 
+-- the place after the number of classes
 abbrev pub count_step : Place → List Text → Option Place
 count_step p (k ∷ n ∷ []) = value_below 256 n >>= λ count. Some (record p { stage = stage.Classes; due = count })
 count_step p ws = None
 
+-- the place after a class line
 abbrev pub class_step : Place → List Text → Option Place
 class_step p (k ∷ name ∷ label ∷ f ∷ frames ∷ g ∷ pages ∷ v ∷ volume ∷ []) = with_class p (entry_in name label) (pool_in frames pages volume)
 class_step p ws = None
 
+-- the place after the number of processors
 abbrev pub processors_step : Place → List Text → Option Place
 processors_step p (k ∷ n ∷ []) = value_below 256 n >>= λ count. Some (record p { stage = stage.Cycle; processors = count })
 processors_step p ws = None
 
+-- the place after the cycle
 abbrev pub cycle_step : Place → List Text → Option Place
 cycle_step p (k ∷ ws) = bytes_from [] ws >>= λ cycle. Some (record p { stage = stage.Rounds; cycle = cycle })
 cycle_step p ws = None
 
+-- the place after the number of rounds
 abbrev pub rounds_step : Place → List Text → Option Place
 rounds_step p (k ∷ n ∷ []) = value_below (2 ^ 32) n >>= λ count. Some (record p { stage = stage.Quantum; rounds = count })
 rounds_step p ws = None
 
+-- the place after the quantum
 abbrev pub quantum_step : Place → List Text → Option Place
 quantum_step p (k ∷ n ∷ []) = value_below (2 ^ 32) n >>= λ count. Some (record p { stage = stage.Console; quantum = count })
 quantum_step p ws = None
 
+-- the place after the console size
 abbrev pub console_step : Place → List Text → Option Place
 console_step p (k ∷ n ∷ []) = value_below (2 ^ 32) n >>= λ count. Some (record p { stage = stage.Body; console = count })
 console_step p ws = None
@@ -135,6 +147,7 @@ script_step p n = value_below 256 n >>= λ class. Some (record p { stage = stage
 abbrev pub event_step : Place → Text → Option Place
 event_step p word = event_in word >>= λ item. Some (record p { schedule = p.schedule ++ item ∷ [] })
 
+-- the place after a process line
 abbrev pub process_step : Place → Option ProcessLine → Option Place
 process_step p (Some line) = Some (record p { processes = p.processes ++ line ∷ [] })
 process_step p None = None
@@ -146,6 +159,7 @@ body_step p (k ∷ n ∷ []) = if bytes_eq k (codes "script") then script_step p
 body_step p (k ∷ processor ∷ class ∷ script ∷ ring ∷ []) = process_step p (process_in processor class script ring)
 body_step p ws = None
 
+-- the place with one instruction more in its script
 abbrev pub with_instr : Place → Instr → Place
 with_instr p i = record p { instrs = p.instrs ++ i ∷ [] }
 
@@ -163,6 +177,7 @@ instr_step p (k ∷ r ∷ []) = register_of r >>= λ a. Some (with_instr p (I.Ou
 instr_step p (k ∷ r ∷ n ∷ []) = register_of r >>= λ a. value_below (2 ^ 64) n >>= λ m. Some (with_instr p (I.Set a m))
 instr_step p ws = None
 
+-- the place after a line of words, by which line comes next
 abbrev pub stage_step : Stage → Place → List Text → Option Place
 stage_step stage.Header p ws = header_step p ws
 stage_step stage.Count p ws = count_step p ws

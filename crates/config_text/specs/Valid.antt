@@ -29,6 +29,7 @@ max_events = 4194304
 abbrev pub is_class : Config → ℕ → Bool
 is_class k c = nat_lt c (length k.table)
 
+-- at most 16 frames, 32 pages and volume 4
 abbrev pub pool_ok : Pool → Bool
 pool_ok p = nat_le p.frames 16 && nat_le p.pages 32 && nat_le p.volume 4
 
@@ -77,6 +78,7 @@ instr_ok (I.Advance a) = are_registers (a ∷ [])
 instr_ok (I.Ticket a) = are_registers (a ∷ [])
 instr_ok (I.Out a) = are_registers (a ∷ [])
 
+-- a script of a class of the table, that is a program with operands in range
 abbrev pub script_ok : Config → Script → Bool
 script_ok k s = is_class k s.class && program_ok s.program && list_all instr_ok s.program
 
@@ -84,9 +86,11 @@ script_ok k s = is_class k s.class && program_ok s.program && list_all instr_ok 
 abbrev pub uses_script : Config → ℕ → ℕ → Bool
 uses_script k d n = option_map_or (λ (s : Script). is_class k s.class && at_or_below k.table s.class d) (slice_get k.scripts n) false
 
+-- a gate of a class of the table, with a script that it may use and brackets in order
 abbrev pub gate_ok : Config → GateLine → Bool
 gate_ok k g = is_class k g.class && uses_script k g.class g.script && in_order g.brackets
 
+-- a process of a processor and class that there are, in a ring, with a script that it may use
 abbrev pub process_ok : Config → ProcessLine → Bool
 process_ok k p = nat_lt p.processor k.processors && is_class k p.class && nat_le p.ring 7 && uses_script k p.class p.script
 
@@ -100,6 +104,7 @@ events_of k (item.Events p c n) = n
 events_of k (item.Mix x n) = n
 events_of k (item.Sweep n) = n * k.quantum * k.processors
 
+-- an item of a processor and class that there are, with 1 to 4,194,304 events or rounds
 abbrev pub item_ok : Config → Item → Bool
 item_ok k (item.Events p c n) = nat_lt p k.processors && is_class k c && within 1 max_events n
 item_ok k (item.Mix x n) = nat_lt x 18446744073709551616 && within 1 max_events n

@@ -88,12 +88,15 @@ instr_line (I.Out a) = with_registers (codes "out") (a ∷ [])
 abbrev pub number_line : List ℕ → ℕ → List Word
 number_line keyword n = fixed keyword ∷ number n ∷ []
 
+-- the first line, with the number of the format
 abbrev pub header_line : List Word
 header_line = fixed (codes "gemkernel") ∷ fixed (codes "1") ∷ []
 
+-- the line that ends a script, and the text
 abbrev pub end_line : List Word
 end_line = fixed (codes "end") ∷ []
 
+-- a class: its name, its label, its pools and its volume
 abbrev pub class_line : ClassEntry → Pool → List Word
 class_line c p =
     fixed (codes "class") ∷ fixed c.name ∷ label c.label ∷ fixed (codes "frames") ∷ number p.frames ∷ fixed (codes "pages") ∷ number p.pages ∷
@@ -104,6 +107,7 @@ abbrev pub class_lines : List ClassEntry → List Pool → List (List Word)
 class_lines (c ∷ cs) (p ∷ ps) = class_line c p ∷ class_lines cs ps
 class_lines _ _ = []
 
+-- the classes of the cycle
 abbrev pub cycle_line : List ℕ → List Word
 cycle_line cycle = fixed (codes "cycle") ∷ map number cycle
 
@@ -111,10 +115,12 @@ cycle_line cycle = fixed (codes "cycle") ∷ map number cycle
 abbrev pub script_lines : Script → List (List Word)
 script_lines s = number_line (codes "script") s.class ∷ (map instr_line s.program ++ end_line ∷ [])
 
+-- a gate: its class, its script and its brackets
 abbrev pub gate_line : GateLine → List Word
 gate_line g =
     fixed (codes "gate") ∷ number g.class ∷ number g.script ∷ number g.brackets.r1 ∷ number g.brackets.r2 ∷ number g.brackets.r3 ∷ []
 
+-- a process: its processor, class, script and ring
 abbrev pub process_line : ProcessLine → List Word
 process_line p = fixed (codes "process") ∷ number p.processor ∷ number p.class ∷ number p.script ∷ number p.ring ∷ []
 
@@ -126,9 +132,11 @@ item_line (item.Sweep n) = number_line (codes "sweep") n
 
 -- ---- the whole
 
+-- the first lines, up to the classes
 abbrev pub header_lines : Config → List (List Word)
 header_lines k = header_line ∷ number_line (codes "classes") (length k.table) ∷ class_lines k.table k.pools
 
+-- the lines of the header behind the classes
 abbrev pub number_lines : Config → List (List Word)
 number_lines k =
     number_line (codes "processors") k.processors ∷ cycle_line k.cycle ∷ number_line (codes "rounds") k.rounds ∷

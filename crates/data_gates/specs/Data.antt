@@ -14,6 +14,7 @@ abbrev pub load_words : ℕ → ℕ → ℕ → List ℕ → ℕ → Loads Outco
 load_words f at zero got pad = Loads.Shows (Words pad got)
 load_words f at (suc n) got pad = Loads.Load (FrameWord f at) (λ w. load_words f (at + 1) n (got ++ w ∷ []) pad)
 
+-- fetch, once the home is known: the words where it is Resident, else a refusal
 abbrev pub fetch_home : ℕ → ℕ → ℕ → Home → Loads Outcome
 fetch_home offset count pad (H.Resident f page size) = load_words f offset count [] pad
 fetch_home offset count pad H.Deleted = Loads.Shows (Refused Gone)
@@ -32,6 +33,7 @@ store_words f at (v ∷ vs) rest = Inner.Store (FrameWord f at) v (store_words f
 abbrev pub count_write : SegId → Inner Outcome
 count_write u = Inner.Add (WritesOf u) 1 (λ old. Inner.Shows (Value (plus_one old)))
 
+-- update, once the home is known: the words are stored where it is Resident, else a refusal
 abbrev pub update_home : SegId → ℕ → List ℕ → Home → Inner Outcome
 update_home u offset words (H.Resident f page size) = store_words f offset words (count_write u)
 update_home u offset words H.Deleted = Inner.Shows (Refused Gone)

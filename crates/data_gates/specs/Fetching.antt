@@ -28,6 +28,7 @@ abbrev pub fetch_act : Fetch → Option Rule → Act Outcome
 fetch_act f (Some rule) = refusing (Refused rule)
 fetch_act f None = Look (guard_class f.look.guard) (guard_name f.look.guard) (fetch_body f.seg f.offset f.count f.pad)
 
+-- how far a fetch is, by its look and by what is left of its body
 abbrev pub fetch_doing : Fetch → Option Rule → Doing Outcome
 fetch_doing f (Some rule) = Fresh
 fetch_doing f None = looking f.look.guard f.look.part (fetch_body f.seg f.offset f.count f.pad)
@@ -37,5 +38,6 @@ fetch_doing f None = looking f.look.guard f.look.part (fetch_body f.seg f.offset
 abbrev pub act_of : Fetch → Act Outcome
 act_of f = fetch_act f f.refusal
 
+-- how far the gate is
 abbrev pub doing_of : Fetch → Doing Outcome
 doing_of f = fetch_doing f f.refusal

@@ -30,6 +30,7 @@ abbrev pub update_act : Update → Option Rule → Act Outcome
 update_act f (Some rule) = refusing (Refused rule)
 update_act f None = SegmentTurn f.seg (update_body f.seg f.offset (part_of f.words f.pad f.count))
 
+-- how far an update is, by its turn and by what is left of its body
 abbrev pub update_doing : Update → Option Rule → Doing Outcome
 update_doing f (Some rule) = Fresh
 update_doing f None = turning f.seg f.turn.part (update_body f.seg f.offset (part_of f.words f.pad f.count))
@@ -39,5 +40,6 @@ update_doing f None = turning f.seg f.turn.part (update_body f.seg f.offset (par
 abbrev pub act_of : Update → Act Outcome
 act_of f = update_act f f.refusal
 
+-- how far the gate is
 abbrev pub doing_of : Update → Doing Outcome
 doing_of f = update_doing f f.refusal

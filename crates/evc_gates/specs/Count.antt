@@ -9,6 +9,7 @@ use Rattle.policy.specs.declared.rule.Rule.TheVariants.{ConsoleFull}
 abbrev pub read_op : List ℕ → Known → Tally → WordOp
 read_op classes k t = WordOp.Load (slice_index classes t.seen) (ComponentOf k.class k.seg)
 
+-- what the look at a component shows
 abbrev pub read_shows : List ℕ → ℕ → Tally → ℕ → Outcome
 read_shows classes wanted t answer = tallied (length classes) wanted t answer
 
@@ -16,6 +17,7 @@ read_shows classes wanted t answer = tallied (length classes) wanted t answer
 abbrev pub advance_op : Known → WordOp
 advance_op k = WordOp.Add (ComponentOf k.class k.seg) 1
 
+-- advance shows the component's new number
 abbrev pub advance_shows : ℕ → Outcome
 advance_shows answer = Value (plus_one answer)
 
@@ -23,6 +25,7 @@ advance_shows answer = Value (plus_one answer)
 abbrev pub ticket_op : Known → WordOp
 ticket_op k = WordOp.Add (SequencerOf k.seg) 1
 
+-- ticket shows the old number
 abbrev pub ticket_shows : ℕ → Outcome
 ticket_shows answer = Value answer
 
@@ -30,5 +33,6 @@ ticket_shows answer = Value answer
 abbrev pub out_op : WordOp
 out_op = WordOp.Add Places 1
 
+-- out shows the place, or that the console is full
 abbrev pub out_shows : ℕ → ℕ → ℕ → Outcome
 out_shows console value answer = if nat_lt answer console then Printed answer value else Refused ConsoleFull

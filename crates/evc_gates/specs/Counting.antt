@@ -24,6 +24,7 @@ look_ending _ = Ends
 abbrev pub shown_at_once : Outcome → Told Outcome
 shown_at_once o = record { takes = Some o; doing = Fresh; ending = look_ending o }
 
+-- so many looks, with this sum
 abbrev pub tally : ℕ → ℕ → Tally
 tally seen sum = record { seen = seen; sum = sum }
 
@@ -37,13 +38,16 @@ tally_shown t (Looked (Some u)) = u
 tally_shown t (Refused rule) = t
 tally_shown t _ = tally 0 0
 
+-- the tally after a look
 abbrev pub tally_after : Tally → Option Outcome → Tally
 tally_after t None = t
 tally_after t (Some o) = tally_shown t o
 
+-- advance: one addition, or a refusal
 abbrev pub advance_act : Option Rule → Known → Act Outcome
 advance_act refusal k = unless_broken refusal (Once (advance_op k) (λ w. shown_at_once (advance_shows w)))
 
+-- ticket: one addition, or a refusal
 abbrev pub ticket_act : Option Rule → Known → Act Outcome
 ticket_act refusal k = unless_broken refusal (Once (ticket_op k) (λ w. shown_at_once (ticket_shows w)))
 

@@ -28,6 +28,7 @@ reply_now (Some shown) kept = reply_of shown
 reply_now None (Some reply) = reply
 reply_now None None = record { code = 0; value = 0 }
 
+-- what a step is answered by, from how it ends
 abbrev pub answer_by : Ending → Reply → Answer
 answer_by Goes reply = A.Going
 answer_by Polls reply = A.Poll
@@ -42,6 +43,7 @@ abbrev pub reply_kept_by : Ending → Option Outcome → Option Reply → Option
 reply_kept_by Goes (Some shown) kept = Some (reply_of shown)
 reply_kept_by _ _ kept = kept
 
+-- the reply that is kept: that of an effect which an end is still to follow
 abbrev pub reply_kept : Told Outcome → Option Reply → Option Reply
 reply_kept told kept = reply_kept_by told.ending told.takes kept
 

@@ -28,6 +28,7 @@ planned console x p (Own after) = record x { process = Some after }
 planned console x p (Ask (Out value)) = printed console x p value
 planned console x p _ = x
 
+-- one event, by the process of the class if there is one
 abbrev pub process_step : Shared → ℕ → ClassRun → Option Process → ClassRun
 process_step s d x None = x
 process_step s d x (Some p) = if p.live then planned s.console x p (plan s d p) else x
@@ -49,6 +50,7 @@ class_opening k d = record {
   used = 0;
 }
 
+-- what is seen of its process
 abbrev pub seen_process : Option Process → List SeenProcess
 seen_process None = []
 seen_process (Some p) = record { processor = 0; slot = 0; process = p } ∷ []

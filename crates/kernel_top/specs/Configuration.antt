@@ -9,15 +9,19 @@ use Rattle.words_layout.specs.declared.op.Event.{Event}
 use Rattle.class_model.specs.Config.{Config, Pool, Script, Gate, ProcessLine, SegRecord}
 use Rattle.schedule.specs.Schedule.{Shape, scheduled}
 
+-- the pools of a class, without its volume
 abbrev pub pool_of_text : PoolText → Pool
 pool_of_text p = record { frames = p.frames; pages = p.pages }
 
+-- a script
 abbrev pub script_of_text : ScriptText → Script
 script_of_text x = record { class = x.class; program = x.program }
 
+-- a gate
 abbrev pub gate_of_text : GateLine → Gate
 gate_of_text g = record { class = g.class; script = g.script; brackets = g.brackets }
 
+-- a process
 abbrev pub process_of_text : ProcessText → ProcessLine
 process_of_text p = record { processor = p.processor; class = p.class; script = p.script; ring = p.ring }
 

@@ -53,6 +53,7 @@ pub record Stopped (before after : Ports) (why : Type 0) : Type 0 where
   pub silent : NothingPushed before after
   pub shows : why
 
+-- what holds of the ports at each answer of the run
 abbrev pub Outcome : Ports → Ports → Status → Type 0
 Outcome before after Done = Wrote before after false
 Outcome before after Unfinished = Wrote before after true

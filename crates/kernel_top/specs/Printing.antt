@@ -20,6 +20,7 @@ pub record Torn (before after : ℕ → Port) (text : List ℕ) : Type 0 where
   pub keeps : PushKeeps 0 before after
   pub rose : Rose (before 0).pushes (after 0).pushes
 
+-- the bytes were taken whole, or a proper prefix of them at a fault
 abbrev pub Prints : (ℕ → Port) → (ℕ → Port) → List ℕ → Result (Unit {0}) Failed → Type 0
 Prints before after text result = MatchResult result (λ x. Pushed before after text) (λ x. Torn before after text)
 

@@ -9,6 +9,7 @@ use Rattle.kernel_top.specs.Alone.{ClassRun, class_opening, class_after}
 use Rattle.kernel_top.specs.Thin.{count_of}
 use Rattle.kernel_top.specs.Configuration.{configuration, events_of}
 
+-- a class that runs by itself, as the code keeps it
 pub record RunOf : Type 0 where
   pub class : ℕ
   pub console : ℕ

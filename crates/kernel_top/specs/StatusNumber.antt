@@ -3,6 +3,7 @@ use Rattle.std.specs.Prelude.{ℕ}
 use Rattle.kernel_top.specs.declared.status.Status.{Status}
 use Rattle.kernel_top.specs.declared.status.Status.TheVariants.{Done, Refused, Usage, HostFault, Unfinished, NoMemory}
 
+-- the number of an answer
 abbrev pub status_number : Status → ℕ
 status_number Done = 0
 status_number (Refused why) = 1

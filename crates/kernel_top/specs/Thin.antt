@@ -54,6 +54,7 @@ EachSteps a (n ∷ names) = (is_some (deed a n) ≡ true) × EachSteps (step a n
 abbrev pub class_is_live : ℕ → Machine → Bool
 class_is_live c m = list_any (λ p. list_any is_live ((m.part c).vp p).slots) (below 4)
 
+-- whether there is a process and it is live
 abbrev pub process_is_live : Option Process → Bool
 process_is_live None = false
 process_is_live (Some p) = p.live

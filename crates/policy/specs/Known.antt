@@ -7,6 +7,7 @@ use Rattle.words_layout.specs.Segments.{seg}
 use Rattle.words_layout.specs.declared.segment.SegId.{SegId}
 use Rattle.words_layout.specs.declared.coding.Alias.{Alias}
 
+-- a known segment: its identity, class, brackets and size, and the rights by which it is known
 pub record Known : Type 0 where
   pub seg : SegId
   pub class : ℕ
@@ -18,9 +19,11 @@ pub record Known : Type 0 where
 abbrev pub observes : ℕ → Bool
 observes rights = bit_at rights 0 == 1
 
+-- the rights let modify
 abbrev pub modifies : ℕ → Bool
 modifies rights = bit_at rights 1 == 1
 
+-- the rights let signal
 abbrev pub signals : ℕ → Bool
 signals rights = bit_at rights 2 == 1
 

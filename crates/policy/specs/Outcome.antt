@@ -14,6 +14,7 @@ pub record Tally : Type 0 where
   pub seen : ℕ
   pub sum : ℕ
 
+-- what the state shows
 pub data Outcome : Type 0 where
   Refused : Rule → Outcome
   Value : ℕ → Outcome

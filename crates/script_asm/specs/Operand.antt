@@ -7,6 +7,7 @@ use Rattle.script_asm.specs.declared.op.Op.TheVariants as op
 use Rattle.script_asm.specs.declared.op.Kind.{Kind}
 use Rattle.script_asm.specs.declared.op.Kind.TheVariants.{Register, Immediate, Target, Index}
 
+-- a word as its bytes
 abbrev pub Word : Type 0
 Word = List ℕ
 
@@ -75,9 +76,11 @@ kinds op.Out = Register ∷ []
 abbrev pub reg : ℕ → ℕ
 reg n = min n 15
 
+-- the place of a script or a gate
 abbrev pub place : ℕ → ℕ
 place n = min n 31
 
+-- a place of the script, by number or by name
 abbrev pub target : ℕ → ℕ
 target n = min n 65535
 

@@ -35,5 +35,6 @@ abbrev pub or_bad_end : Option ℕ → List Instr → Option ℕ
 or_bad_end (Some at) list = Some at
 or_bad_end None list = if ends_well list then None else Some (length list - 1)
 
+-- the place of the first fault, if the list has one
 unfoldable pub first_fault : List Instr → Option ℕ
 first_fault list = if nat_lt 256 (length list) then Some 256 else or_bad_end (position (λ i. not (target_ok (length list) i)) list) list

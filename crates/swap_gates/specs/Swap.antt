@@ -36,6 +36,7 @@ abbrev pub bring_in : Known → Option ℕ → ℕ → Inner Outcome
 bring_in k page f = Inner.Store (FrameTenant f) (seg_number k.seg + 1) (fill_frame f k.size page
     (Inner.Store (HomeOf k.seg) (pack_home (H.Resident f page k.size)) (Inner.Shows (Value 0))))
 
+-- swapin, once the home is known
 abbrev pub swap_in_home : ℕ → Known → Home → Inner Outcome
 swap_in_home frames k H.Deleted = Inner.Shows (Refused Gone)
 swap_in_home frames k (H.Resident f page size) = Inner.Shows (Refused AlreadyIn)
@@ -55,6 +56,7 @@ take_out k f size g = copy_words (FrameWord f) (PageWord g) 0 k.size (Inner.Stor
 abbrev pub take_page : Known → ℕ → ℕ → ℕ → Inner Outcome
 take_page k f size g = Inner.Store (PageTenant g) (seg_number k.seg + 1) (take_out k f size g)
 
+-- swapout, once the home is known
 abbrev pub swap_out_home : ℕ → Known → Home → Inner Outcome
 swap_out_home pages k H.Deleted = Inner.Shows (Refused Gone)
 swap_out_home pages k (H.Resident f (Some g) size) = take_out k f size g

@@ -45,6 +45,7 @@ abbrev pub in_act : SwapIn → Option Rule → Act Outcome
 in_act s (Some rule) = refusing (Refused rule)
 in_act s None = ClassTurn (swap_in_body s.pool s.known)
 
+-- how far a swapin is, by its turns and by what is left of its body
 abbrev pub in_doing : SwapIn → Option Rule → Doing Outcome
 in_doing s (Some rule) = Fresh
 in_doing s None = nesting s.known.seg s.turns.part (swap_in_body s.pool s.known) (swap_in_body s.pool s.known)
@@ -54,5 +55,6 @@ in_doing s None = nesting s.known.seg s.turns.part (swap_in_body s.pool s.known)
 abbrev pub act_of : SwapIn → Act Outcome
 act_of s = in_act s s.refusal
 
+-- how far the gate is
 abbrev pub doing_of : SwapIn → Doing Outcome
 doing_of s = in_doing s s.refusal

@@ -48,6 +48,7 @@ abbrev pub out_act : SwapOut → Option Rule → Act Outcome
 out_act s (Some rule) = refusing (Refused rule)
 out_act s None = ClassTurn (swap_out_body s.pool s.known)
 
+-- how far a swapout is, by its turns and by what is left of its body
 abbrev pub out_doing : SwapOut → Option Rule → Doing Outcome
 out_doing s (Some rule) = Fresh
 out_doing s None = nesting s.known.seg s.turns.part (swap_out_body s.pool s.known) (swap_out_body s.pool s.known)
@@ -57,5 +58,6 @@ out_doing s None = nesting s.known.seg s.turns.part (swap_out_body s.pool s.know
 abbrev pub act_of : SwapOut → Act Outcome
 act_of s = out_act s s.refusal
 
+-- how far the gate is
 abbrev pub doing_of : SwapOut → Doing Outcome
 doing_of s = out_doing s s.refusal

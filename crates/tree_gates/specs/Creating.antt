@@ -43,6 +43,7 @@ abbrev pub create_act : Create → Option Rule → Act Outcome
 create_act s (Some rule) = refusing (Refused rule)
 create_act s None = ClassTurn (create_body s.seg s.entry s.child_class s.brackets s.size)
 
+-- how far a create is, by its turn and by what is left of its body
 abbrev pub create_doing : Create → Option Rule → Doing Outcome
 create_doing s (Some rule) = Fresh
 create_doing s None = nesting s.seg s.turns.part (create_body s.seg s.entry s.child_class s.brackets s.size)
@@ -52,5 +53,6 @@ create_doing s None = nesting s.seg s.turns.part (create_body s.seg s.entry s.ch
 abbrev pub act_of : Create → Act Outcome
 act_of s = create_act s s.refusal
 
+-- how far the gate is
 abbrev pub doing_of : Create → Doing Outcome
 doing_of s = create_doing s s.refusal

@@ -56,6 +56,7 @@ abbrev pub delete_act : Delete → Option Rule → Act Outcome
 delete_act s (Some rule) = refusing (Refused rule)
 delete_act s None = ClassTurn (delete_body s.class s.mentor s.entry)
 
+-- how far a delete is, by its turns and by what is left of its body
 abbrev pub delete_doing : Delete → Option Rule → Doing Outcome
 delete_doing s (Some rule) = Fresh
 delete_doing s None = nesting s.child s.turns.part (delete_body s.class s.mentor s.entry) (outer_left s.class s.mentor s.child s.entry s.place s.rest)
@@ -65,5 +66,6 @@ delete_doing s None = nesting s.child s.turns.part (delete_body s.class s.mentor
 abbrev pub act_of : Delete → Act Outcome
 act_of s = delete_act s s.refusal
 
+-- how far the gate is
 abbrev pub doing_of : Delete → Doing Outcome
 doing_of s = delete_doing s s.refusal

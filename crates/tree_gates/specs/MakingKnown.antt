@@ -34,6 +34,7 @@ abbrev pub make_known_act : List ClassEntry → MakeKnown → Option Rule → Ac
 make_known_act table f (Some rule) = refusing (Refused rule)
 make_known_act table f None = Look f.mentor.class OfClass (make_known_loads table f)
 
+-- how far a makeknown is, by its look and by what is left of its body
 abbrev pub make_known_doing : List ClassEntry → MakeKnown → Option Rule → Doing Outcome
 make_known_doing table f (Some rule) = Fresh
 make_known_doing table f None = looking f.look.guard f.look.part (make_known_loads table f) (make_known_loads table f)
@@ -43,6 +44,7 @@ make_known_doing table f None = looking f.look.guard f.look.part (make_known_loa
 abbrev pub act_of : List ClassEntry → MakeKnown → Act Outcome
 act_of table f = make_known_act table f f.refusal
 
+-- how far the gate is
 abbrev pub doing_of : List ClassEntry → MakeKnown → Doing Outcome
 doing_of table f = make_known_doing table f f.refusal
 

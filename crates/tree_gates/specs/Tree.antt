@@ -26,10 +26,12 @@ create_serial u e class b size n =
     else Outer.Store NextSerial (plus_one n)
     (Outer.Store (EntryOf u e) (pack_entry (new_alias class b size n)) (Outer.Shows (Value n)))
 
+-- create, once the entry is known to be empty or not
 abbrev pub create_entry : SegId → ℕ → ℕ → Brackets → ℕ → Option Alias → Outer Outcome
 create_entry u e class b size (Some a) = Outer.Shows (Refused EntryTaken)
 create_entry u e class b size None = Outer.Load NextSerial (λ n. create_serial u e class b size n)
 
+-- create, once the mentor's home is known
 abbrev pub create_home : SegId → ℕ → ℕ → Brackets → ℕ → Home → Outer Outcome
 create_home u e class b size H.Deleted = Outer.Shows (Refused Gone)
 create_home u e class b size _ = Outer.Load (EntryOf u e) (λ w. create_entry u e class b size (entry_of w))
@@ -44,6 +46,7 @@ check_entries u e zero rest = rest
 check_entries u e (suc n) rest =
     Outer.Load (EntryOf u e) (λ w. if is_some (entry_of w) then Outer.Shows (Refused NotEmpty) else check_entries u (e + 1) n rest)
 
+-- a page's tenant is stored as 0, if there is a page
 abbrev pub free_page : Option ℕ → Inner Outcome → Inner Outcome
 free_page None rest = rest
 free_page (Some g) rest = Inner.Store (PageTenant g) 0 rest
@@ -59,6 +62,7 @@ abbrev pub delete_child : SegId → SegId → ℕ → Inner Outcome
 delete_child child u e = Inner.Load (HomeOf child) (λ w. free_home (home_of w)
     (Inner.Store (HomeOf child) (pack_home H.Deleted) (Inner.Store (EntryOf u e) 0 (Inner.Shows (Value 0)))))
 
+-- delete, once the entry is known
 abbrev pub delete_entry : ℕ → SegId → ℕ → Option Alias → Outer Outcome
 delete_entry d u e None = Outer.Shows (Refused NoEntry)
 delete_entry d u e (Some a) =

@@ -30,12 +30,15 @@ pub record Told (R : Type 0) : Type 0 where
   pub doing : Doing R
   pub ending : Ending
 
+-- nothing takes effect, and it goes on
 abbrev pub going : {R : Type 0} → Doing R → Told R
 going x = record { takes = None; doing = x; ending = Goes }
 
+-- nothing takes effect, and it waits
 abbrev pub poll : {R : Type 0} → Doing R → Told R
 poll x = record { takes = None; doing = x; ending = Polls }
 
+-- it takes effect and ends
 abbrev pub done : {R : Type 0} → R → Told R
 done shown = record { takes = Some shown; doing = Fresh; ending = Ends }
 
@@ -71,10 +74,12 @@ doing_op d (InnerThird within u t body) = WordOp.Load d (Finished (OfSegment u))
 doing_op d (InnerBody within u t rest) = inner_op d u rest
 doing_op d (Leaving t) = WordOp.Add (Finished OfClass) 1
 
+-- a look in its body or at its last part
 abbrev pub look_told : {R : Type 0} → ℕ → Guard → ℕ → Loads R → ℕ → Told R
 look_told class g s (Loads.Load w onward) answer = going (LookBody class g s (onward answer))
 look_told class g s (Loads.Shows shown) answer = if answer == s then done shown else poll Fresh
 
+-- a class's turn in its body or at its last part
 abbrev pub outer_told : {R : Type 0} → ℕ → Outer R → ℕ → Told R
 outer_told t (Outer.Load w onward) answer = going (OuterBody t (onward answer))
 outer_told t (Outer.Store w v rest) answer = going (OuterBody t rest)
@@ -86,6 +91,7 @@ abbrev pub left : {R : Type 0} → Option ℕ → R → Told R
 left None shown = done shown
 left (Some t) shown = record { takes = Some shown; doing = Leaving t; ending = Goes }
 
+-- a segment's turn in its body or at its last part
 abbrev pub inner_told : {R : Type 0} → Option ℕ → SegId → ℕ → Inner R → ℕ → Told R
 inner_told within u t (Inner.Load w onward) answer = going (InnerBody within u t (onward answer))
 inner_told within u t (Inner.Store w v rest) answer = going (InnerBody within u t rest)
@@ -121,6 +127,7 @@ act_op (Look class g body) = WordOp.Load class (Started g)
 act_op (ClassTurn body) = WordOp.Add (Started OfClass) 1
 act_op (SegmentTurn u body) = WordOp.Add (Started (OfSegment u)) 1
 
+-- what the first answer tells
 abbrev pub act_told : {R : Type 0} → Act R → ℕ → Told R
 act_told (Once op told) answer = told answer
 act_told (Look class g body) answer = going (LookSecond class g answer body)

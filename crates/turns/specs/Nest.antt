@@ -47,9 +47,11 @@ nested_asks d u (Leaving t) = WordOp.Add (Finished OfClass) 1
 abbrev pub OuterRow : NestedPart → ℕ → (TurnPart → ℕ → TurnPart → Type 0) → NestedPart → Type 0
 OuterRow p answer row q = (a : TurnPart) × (b : TurnPart) × ((p ≡ Outer a) × (q ≡ Outer b) × row a answer b)
 
+-- the rows of the segment's turn within, by what they tell
 abbrev pub InnerRow : NestedPart → ℕ → (TurnPart → ℕ → TurnPart → Type 0) → NestedPart → Type 0
 InnerRow p answer row q = (t : ℕ) × (a : TurnPart) × (b : TurnPart) × ((p ≡ Inner t a) × (q ≡ Inner t b) × row a answer b)
 
+-- the rows of both turns: the part before the answer and the part after it
 abbrev pub NestedRow : NestedPart → ℕ → NestedStep → NestedPart → Type 0
 NestedRow p answer NS.Going q = OuterRow p answer (λ a n b. TurnRow a n TS.Going b) q ⊎ InnerRow p answer (λ a n b. TurnRow a n TS.Going b) q
 NestedRow p answer NS.Poll q = OuterRow p answer (λ a n b. TurnRow a n TS.Poll b) q ⊎ InnerRow p answer (λ a n b. TurnRow a n TS.Poll b) q

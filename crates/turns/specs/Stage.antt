@@ -12,6 +12,7 @@ pub data Stage : Type 0 where
   Waits : (t : ℕ) → Stage
   Has : (t : ℕ) → Stage
 
+-- the stage of the class's turn around a segment's
 abbrev pub within_stage : Option ℕ → Stage
 within_stage None = Outside
 within_stage (Some t) = Has t
@@ -26,6 +27,7 @@ abbrev pub at_segment : Guard → Option ℕ → SegId → Stage → Stage
 at_segment OfClass within u x = within_stage within
 at_segment (OfSegment v) within u x = if same_seg v u then x else Outside
 
+-- how far a process is in a turn of the guard
 abbrev pub stage : {R : Type 0} → Guard → Doing R → Stage
 stage g (OuterSecond body) = at_class g Begun
 stage g (OuterThird t body) = at_class g (Waits t)

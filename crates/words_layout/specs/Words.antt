@@ -30,11 +30,13 @@ pub data Word : Type 0 where
   SequencerOf : SegId → Word
   Guarded : GuardedWord → Word
 
+-- the same guard
 abbrev pub same_guard : Guard → Guard → Bool
 same_guard OfClass OfClass = true
 same_guard (OfSegment u) (OfSegment v) = same_seg u v
 same_guard _ _ = false
 
+-- the same guarded word
 abbrev pub same_word : GuardedWord → GuardedWord → Bool
 same_word NextSerial NextSerial = true
 same_word (HomeOf u) (HomeOf v) = same_seg u v
@@ -46,6 +48,7 @@ same_word (PageTenant f) (PageTenant g) = f == g
 same_word (PageWord f i) (PageWord g j) = f == g && i == j
 same_word _ _ = false
 
+-- the place of a guarded word among the words of its class
 abbrev pub guarded_offset : GuardedWord → ℕ
 guarded_offset NextSerial = 4
 guarded_offset (HomeOf u) = 5 + 15 * seg_number u
