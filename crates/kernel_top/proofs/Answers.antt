@@ -14,7 +14,8 @@ use Rattle.kernel_top.specs.declared.status.PortFault.TheVariants.{Read, Write, 
 use Rattle.kernel_top.specs.Answer.{Ports, IfTold, IsSim, Untouched, NothingPushed, ReadToEnd, OfConfiguration, report_for, limit, IsAnswer, UsageShows, FaultShows, IfRead, LengthShows, SpellingShows, IfRan, Reported, PrefixShows, EndShows, SilenceShows}
 use Rattle.kernel_top.specs.Reading.{ReadsIn, ReadFails}
 use Rattle.kernel_top.specs.Outcome.{HasRead, HasRun, Wrote, Broke, Faulty, Stopped, Outcome, RunsAs}
-use Rattle.kernel_top.specs.Configuration.{configuration, events_of}
+use Rattle.kernel_top.specs.Configuration.{configuration}
+use Rattle.schedule.specs.Schedule.{events_of}
 use Rattle.kernel_top.specs.Headline.{live_after}
 use Rattle.kernel_top.specs.Printing.{Pushed, Torn, own_section}
 

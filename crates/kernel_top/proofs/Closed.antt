@@ -10,7 +10,8 @@ use Rattle.config_text.specs.Valid.{IsValid}
 use Rattle.class_model.specs.Config.{shared_of}
 use Rattle.kernel_top.specs.Alone.{class_after, class_opening}
 use Rattle.kernel_top.specs.Answer.{report_for}
-use Rattle.kernel_top.specs.Configuration.{configuration, events_of}
+use Rattle.kernel_top.specs.Configuration.{configuration}
+use Rattle.schedule.specs.Schedule.{events_of}
 use Rattle.kernel_top.specs.Headline.{live_after}
 use Rattle.kernel_top.specs.Printing.{own_section}
 use Rattle.kernel_top.specs.RunOf.{RunOf, opening_run, closing_run}

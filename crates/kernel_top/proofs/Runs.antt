@@ -6,14 +6,14 @@ use Rattle.std.proofs.lemmas.Bool.{and_parts}
 use Rattle.std.specs.Prelude.{◌==◌, if◌then◌else◌}
 use Rattle.std.specs.List.{list_all, sum_by, find}
 use Rattle.words_layout.specs.declared.op.Event.{Event}
-use Rattle.schedule.specs.Schedule.{Shape, event, scheduled}
+use Rattle.schedule.specs.Schedule.{Shape, event, scheduled, shape_of, events_of}
 use Rattle.config_text.specs.declared.config.Item.{Item}
 use Rattle.config_text.specs.declared.config.Item.TheVariants.{Events, Mix, Sweep}
 use Rattle.config_text.specs.Narrow.{IsNarrow, is_narrow_item}
 use Rattle.kernel_top.specs.Alone.{ClassRun, class_step, class_after}
 use Rattle.kernel_top.specs.Thin.{count_of}
 use Rattle.kernel_top.specs.RunOf.{RunOf, item_events}
-use Rattle.kernel_top.specs.Configuration.{configuration, shape_of, events_of, process_of_text}
+use Rattle.kernel_top.specs.Configuration.{configuration, process_of_text}
 use Rattle.config_text.specs.declared.config.Config.{Config as ConfigText}
 use Rattle.config_text.specs.declared.config.ProcessLine.{ProcessLine as ProcessText}
 use Rattle.config_text.specs.Valid.{IsValid, max_events, events_of as item_total}

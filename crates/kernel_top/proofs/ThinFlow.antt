@@ -13,7 +13,8 @@ use Rattle.report.specs.Reported.{section as section_words}
 use Rattle.config_text.specs.declared.config.Config.{Config as ConfigText}
 use Rattle.config_text.specs.Narrow.{IsNarrow}
 use Rattle.config_text.specs.Valid.{IsValid}
-use Rattle.kernel_top.specs.Configuration.{configuration, events_of}
+use Rattle.kernel_top.specs.Configuration.{configuration}
+use Rattle.schedule.specs.Schedule.{events_of}
 use Rattle.kernel_top.specs.Headline.{low_section, report_of}
 use Rattle.kernel_top.specs.Thin.{IsThin, on_first}
 use Rattle.kernel_top.proofs.Headline.{low_section_thin, report_thin}

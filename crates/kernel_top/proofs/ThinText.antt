@@ -22,9 +22,9 @@ use Rattle.config_text.specs.Valid.{IsValid, is_class, item_ok}
 use Rattle.config_text.specs.Valid.{process_ok as text_process_ok, events_of as item_events}
 use Rattle.class_model.specs.Config.{Config, Script, ProcessLine}
 use Rattle.class_model.specs.Valid.{at_place, process_ok}
-use Rattle.schedule.specs.Schedule.{scheduled, event}
+use Rattle.schedule.specs.Schedule.{scheduled, event, shape_of, events_of}
 use Rattle.machine.specs.Opening.{machine}
-use Rattle.kernel_top.specs.Configuration.{configuration, script_of_text, process_of_text, shape_of, events_of}
+use Rattle.kernel_top.specs.Configuration.{configuration, script_of_text, process_of_text}
 use Rattle.kernel_top.specs.Headline.{report_of, low_section, live_after, class_live}
 use Rattle.kernel_top.specs.Thin.{is_simple, simple_script, thin_line, IsThin, on_first, run_is_live}
 use Rattle.kernel_top.specs.ThinText.{class_run, class_text}

@@ -8,7 +8,8 @@ use Rattle.kernel_top.specs.declared.status.Status.{Status}
 use Rattle.kernel_top.specs.declared.status.Status.TheVariants.{Done, Refused, Usage, HostFault, Unfinished, NoMemory}
 use Rattle.kernel_top.specs.declared.status.Refusal.TheVariants.{Config, Class, Volume, Load, TooLong, Release, Store}
 use Rattle.kernel_top.specs.declared.status.PortFault.TheVariants.{Read, Write, Disk}
-use Rattle.kernel_top.specs.Configuration.{configuration, events_of}
+use Rattle.kernel_top.specs.Configuration.{configuration}
+use Rattle.schedule.specs.Schedule.{events_of}
 use Rattle.kernel_top.specs.Headline.{report_of, live_after}
 
 -- the ports of a host

@@ -1,13 +1,11 @@
 -- The plain data that a configuration's text stands for, for the machines and their events.
-use Rattle.std.specs.Prelude.{ℕ, List, map, length, Some}
+use Rattle.std.specs.Prelude.{List, map, Some}
 use Rattle.config_text.specs.declared.config.Config.{Config as ConfigText}
 use Rattle.config_text.specs.declared.config.Pool.{Pool as PoolText}
 use Rattle.config_text.specs.declared.config.Script.{Script as ScriptText}
 use Rattle.config_text.specs.declared.config.GateLine.{GateLine}
 use Rattle.config_text.specs.declared.config.ProcessLine.{ProcessLine as ProcessText}
-use Rattle.words_layout.specs.declared.op.Event.{Event}
 use Rattle.class_model.specs.Config.{Config, Pool, Script, Gate, ProcessLine, SegRecord}
-use Rattle.schedule.specs.Schedule.{Shape, scheduled}
 
 -- the pools of a class, without its volume
 abbrev pub pool_of_text : PoolText → Pool
@@ -41,11 +39,3 @@ configuration k records = record {
   processes = map process_of_text k.processes;
   records = records;
 }
-
--- the header of its schedule
-abbrev pub shape_of : ConfigText → Shape
-shape_of k = record { processors = k.processors; classes = length k.table; cycle = k.cycle; quantum = k.quantum }
-
--- the events of its schedule
-abbrev pub events_of : ConfigText → List Event
-events_of k = scheduled (shape_of k) 0 k.schedule

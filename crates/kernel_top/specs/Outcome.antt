@@ -8,7 +8,8 @@ use Rattle.kernel_top.specs.declared.status.Status.TheVariants.{Done, Refused, U
 use Rattle.kernel_top.specs.declared.status.Refusal.TheVariants.{Config, TooLong}
 use Rattle.kernel_top.specs.declared.status.PortFault.TheVariants.{Read, Write}
 use Rattle.kernel_top.specs.Answer.{Ports, IfTold, Untouched, NothingPushed, ReadToEnd, limit, report_for}
-use Rattle.kernel_top.specs.Configuration.{configuration, events_of}
+use Rattle.kernel_top.specs.Configuration.{configuration}
+use Rattle.schedule.specs.Schedule.{events_of}
 use Rattle.kernel_top.specs.Headline.{live_after}
 use Rattle.kernel_top.specs.Printing.{Pushed, Torn}
 

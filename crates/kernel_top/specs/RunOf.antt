@@ -7,7 +7,8 @@ use Rattle.config_text.specs.declared.config.Item.TheVariants.{Events}
 use Rattle.class_model.specs.Config.{shared_of}
 use Rattle.kernel_top.specs.Alone.{ClassRun, class_opening, class_after}
 use Rattle.kernel_top.specs.Thin.{count_of}
-use Rattle.kernel_top.specs.Configuration.{configuration, events_of}
+use Rattle.kernel_top.specs.Configuration.{configuration}
+use Rattle.schedule.specs.Schedule.{events_of}
 
 -- a class that runs by itself, as the code keeps it
 pub record RunOf : Type 0 where

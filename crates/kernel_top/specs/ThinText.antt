@@ -4,7 +4,8 @@ use Rattle.config_text.specs.declared.config.Config.{Config as ConfigText}
 use Rattle.class_model.specs.Config.{shared_of}
 use Rattle.class_model.specs.Report.{section_text}
 use Rattle.kernel_top.specs.Alone.{ClassRun, class_after, class_opening, class_seen}
-use Rattle.kernel_top.specs.Configuration.{configuration, events_of}
+use Rattle.kernel_top.specs.Configuration.{configuration}
+use Rattle.schedule.specs.Schedule.{events_of}
 use Rattle.kernel_top.specs.Thin.{count_of}
 
 -- class c by itself after all its events of a configuration's schedule

@@ -1,7 +1,8 @@
 //! A class by itself, where its process asks nothing of a segment.
 
 ghost use Rattle.std.specs.Prelude.{◌≡◌, ◌+◌, ◌≤◌, ◌<◌, ◌^◌, ◌∷◌, [], ◌++◌, IsTrue, length, slice_set, if◌then◌else◌, nat_lt, Some, None, true, false, IfOk, option_copied};
-ghost use Rattle.kernel_top.specs.Configuration.{configuration, events_of};
+ghost use Rattle.kernel_top.specs.Configuration.{configuration};
+ghost use Rattle.schedule.specs.Schedule.{events_of};
 ghost use Rattle.class_model.specs.Config.{shared_of, instr_at as instr_in};
 ghost use Rattle.class_model.specs.Process.{with_reg, new_process, answered, refused, reg};
 ghost use Rattle.config_text.specs.Narrow.{IsNarrow};

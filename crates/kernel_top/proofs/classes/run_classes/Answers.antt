@@ -2,7 +2,8 @@ use Rattle.std.proofs.Common.{length, ap, ◌∙◌, arith, refl, [], ◌<◌, �
 use Rattle.class_model.specs.Config.{shared_of}
 use Rattle.kernel_top.specs.Alone.{class_after}
 use Rattle.kernel_top.specs.Thin.{count_of}
-use Rattle.kernel_top.specs.Configuration.{configuration, events_of}
+use Rattle.kernel_top.specs.Configuration.{configuration}
+use Rattle.schedule.specs.Schedule.{events_of}
 use Rattle.kernel_top.specs.RunOf.{RunOf}
 use Rattle.kernel_top.proofs.Closed.{half_at, half_more, half_begin, half_end, half_length}
 use Rattle.kernel_top.proofs.classes.run_classes.Goals as goal
