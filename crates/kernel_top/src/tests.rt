@@ -117,13 +117,19 @@ fn other_words(rt: HostRuntime) -> Result<(), Fail> {
     Ok(())
 }
 
+/// So many blanks.
+fn blanks(alloc: Global, count: usize) -> Result<Vec<u8>, AllocError> {
+    vec![in alloc; b' '; count]
+}
+
 #[test]
 fn too_long(rt: HostRuntime) -> Result<(), Fail> {
-    let text = vec![in rt.alloc(); 32u8; 1_048_577]?;
-    let found = answer(rt.alloc(), &["sim"], text.as_slice(), 1000, 0, 0)?;
+    let long = blanks(rt.alloc(), 1_048_577)?;
+    let found = answer(rt.alloc(), &["sim"], long.as_slice(), 1000, 0, 0)?;
     assert_eq!(rt; found.0, Status::Refused(Refusal::TooLong { port: 0 }));
     assert_eq!(rt; found.1.len(), 0);
-    let rest = answer(rt.alloc(), &["sim"], &text[..1_048_576], 1000, 0, 0)?;
+    let most = blanks(rt.alloc(), 1_048_576)?;
+    let rest = answer(rt.alloc(), &["sim"], most.as_slice(), 1000, 0, 0)?;
     assert_eq!(rt; rest.0, NO_FORM);
     Ok(())
 }
