@@ -1,6 +1,9 @@
 pub mod Written
 pub mod Valid
-pub mod Narrow
+pub mod Codes
 pub mod Place
-pub mod Steps
-pub mod Answer
+pub mod Rules
+pub mod Views
+pub mod Reading
+pub mod Text
+pub mod Narrow

@@ -4,13 +4,16 @@
 mod config;
 mod draft;
 mod fault;
-mod printing;
+mod judging;
+mod narrow;
 mod reading;
+mod stage;
+mod steps;
 #[cfg(test)]
 mod tests;
-mod validity;
 mod words;
 
 pub use config::{Config, GateLine, Item, Pool, ProcessLine, Script};
 pub use fault::ConfigError;
+pub use narrow::is_narrow;
 pub use reading::read_config;

@@ -1,42 +1,88 @@
-//! Reading a configuration of the narrow form: it is read leniently, judged, written out again and compared.
+//! Reading a configuration.
 
-ghost use Rattle.std.specs.Prelude.{◌≡◌, ◌≤◌, ◌↔◌, [], ℕ, map, length, IsTrue, Some};
-ghost use Rattle.text_lines.specs.Lines.{lines, words_of};
+ghost use Rattle.std.specs.Prelude.{◌≡◌, ◌+◌, ◌^◌, ◌<◌, ◌≤◌, ℕ, IfOk, length, map};
+ghost use Rattle.text_lines.specs.Lines.{lines, views};
+ghost use Rattle.labels.specs.Table.{IsTable, entry_of};
+ghost use Rattle.config_text.specs.declared.fault.ConfigError.TheVariants.{Fault};
 ghost use Rattle.config_text.specs.declared.config.Config.{Config as ConfigValue};
-ghost use Rattle.config_text.specs.Place.{place_of, start};
-ghost use Rattle.config_text.specs.Steps as spec;
-ghost use Rattle.config_text.specs.Narrow.{SpellsNarrow};
-ghost use Rattle.config_text.specs.Answer.{Reads, IsFinished, IsChecked, AnswersNarrow, IsReadAs};
+ghost use Rattle.config_text.specs.Codes.{code_number};
+ghost use Rattle.config_text.specs.Place.{place_of, config_in, start};
+ghost use Rattle.config_text.specs.Rules.{is_unended};
+ghost use Rattle.config_text.specs.Reading.{Reads, StopFits, error_of, lines_answer_from};
+ghost use Rattle.config_text.specs.Text.{AnswersText, Spells, IsFault, IsReadAs, IsRefusedWith};
 
 use crate::config::Config;
 use crate::draft::Draft;
-use crate::fault::{ConfigError, Refusal};
-use crate::printing::written;
-use crate::validity::is_fine;
-use labels::ClassTable;
+use crate::fault::{Code, ConfigError, Stop};
+use crate::stage::Stage;
+use arrayvec::ArrayString;
+use labels::{ClassTable, Label};
 use lists::Items;
-use std::alloc::Global;
-use text_lines::{Lines, word_list};
+use std::alloc::{AllocError, Global};
+use text_lines::Lines;
 
-/// What the lines of the text say.
-#[tactic(auto, using(crate::proofs::Exits::lines_rules))]
-fn read(alloc: Global, text: &[u8]) -> Result<Draft, Refusal>
-    ensures { Reads result (spec.steps start (map words_of (lines text.now))) }
+fn is_unended_draft(draft: &Draft) -> bool
+    ensures { result ≡ is_unended draft.now.stage }
+{
+    !matches!(draft.stage, Stage::Ended)
+}
+
+/// The fault of a line, counted from 1.
+fn fault_at(line: usize, code: Code) -> ConfigError
+    requires { line < 2 ^ 32 }
+    ensures { result ≡ Fault line (code_number code) }
+{
+    ConfigError::Fault {
+        line: line as u32,
+        code: code as u8,
+    }
+}
+
+/// Why a text is no configuration, where this stops the line, which is counted from 1.
+fn stopped(line: usize, stop: Stop) -> ConfigError
+    requires { StopFits line stop }
+    ensures { result ≡ error_of line stop }
+{
+    match stop {
+        Stop::Fault { offset, code } => fault_at(line + offset, code),
+        Stop::Memory => ConfigError::NoMemory,
+    }
+}
+
+/// What the lines say.
+fn read(alloc: Global, lines: &[&[u8]]) -> Result<Draft, ConfigError>
+    requires { length lines.now + 2 < 2 ^ 32 }
+    ensures { Reads result (lines_answer_from start 1 (views lines.now)) }
 {
     let mut draft = Draft::new(alloc);
-    for line in Lines::new(text) {
-        let words = word_list(alloc, line)?;
-        match draft.line(alloc, words.as_slice()) {
-            Ok(()) => {}
-            Err(refusal) => return Err(refusal),
+    let mut index = 0;
+    while index < lines.len() {
+        match draft.step(alloc, lines[index], &lines[index + 1..]) {
+            Ok(count) => index += 1 + count,
+            Err(stop) => return Err(stopped(index + 1, stop)),
         }
+    }
+    if is_unended_draft(&draft) {
+        return Err(fault_at(index + 1, Code::Missing));
     }
     Ok(draft)
 }
 
-/// The configuration of a draft, where its classes make a table.
-fn finish(alloc: Global, draft: Draft) -> Result<Config, Refusal>
-    ensures { IsFinished (place_of draft) result }
+/// The table of these classes.
+fn table_of(entries: Vec<(ArrayString<16>, Label)>) -> ClassTable
+    requires { IsTable (map entry_of entries.items) }
+    ensures { result ≡ map entry_of entries.items }
+{
+    match ClassTable::new(entries) {
+        Ok(table) => table,
+        Err(_) => unreachable!(),
+    }
+}
+
+/// The configuration of a draft whose classes are a table.
+fn finished(draft: Draft) -> Config
+    requires { IsTable (place_of draft).table }
+    ensures { result ≡ config_in (place_of draft) }
 {
     let Draft {
         stage: _,
@@ -48,20 +94,14 @@ fn finish(alloc: Global, draft: Draft) -> Result<Config, Refusal>
         rounds,
         quantum,
         console,
-        script_class: _,
-        instrs: _,
         scripts,
+        gates,
         processes,
         schedule,
+        used: _,
     } = draft;
-    if entries.is_empty() {
-        return Err(Refusal::Form);
-    }
-    let Ok(table) = ClassTable::new(entries) else {
-        return Err(Refusal::Form);
-    };
-    Ok(Config {
-        table,
+    Config {
+        table: table_of(entries),
         pools: Items::of(pools),
         processors,
         cycle: Items::of(cycle),
@@ -69,81 +109,32 @@ fn finish(alloc: Global, draft: Draft) -> Result<Config, Refusal>
         quantum,
         console,
         scripts: Items::of(scripts),
-        gates: Items::of(Vec::new(alloc)),
+        gates: Items::of(gates),
         processes: Items::of(processes),
         schedule: Items::of(schedule),
-    })
+    }
 }
 
-/// Whether the texts have the same lines.
-fn have_same_lines(text: &[u8], other: &[u8]) -> bool
-    ensures { IsTrue result ↔ (lines text.now ≡ lines other.now) }
+/// The lines of a text, in a list.
+fn line_list(alloc: Global, text: &[u8]) -> Result<Vec<&[u8]>, AllocError>
+    ensures { IfOk result (λ v. views v.items ≡ lines text.now) }
 {
-    let mut others = Lines::new(other);
-    for line in Lines::new(text) {
-        match others.next() {
-            Some(next) => {
-                if line != next {
-                    return false;
-                }
-            }
-            None => return false,
-        }
-    }
-    others.next().is_none()
+    Lines::new(text).collect(alloc)
 }
 
-/// The configuration, where it is a valid one of the narrow form and the text's lines are those that are written of it.
-fn check_config(alloc: Global, text: &[u8], config: Config) -> Result<Config, Refusal>
-    requires gates { config.gates ≡ [] }
-    requires only { (k : ConfigValue) → SpellsNarrow text.now k → config ≡ k }
-    ensures { IsChecked text.now result }
-{
-    if !is_fine(&config) {
-        return Err(Refusal::Form);
-    }
-    let again = written(alloc, &config)?;
-    if !have_same_lines(text, again.as_slice()) {
-        return Err(Refusal::Form);
-    }
-    Ok(config)
-}
-
-/// Likewise the configuration of a draft of the text.
-fn check_draft(alloc: Global, text: &[u8], draft: Draft) -> Result<Config, Refusal>
-    requires { spec.steps start (map words_of (lines text.now)) ≡ Some (place_of draft) }
-    ensures { IsChecked text.now result }
-{
-    match finish(alloc, draft) {
-        Ok(config) => check_config(alloc, text, config),
-        Err(refusal) => Err(refusal),
-    }
-}
-
-/// The configuration that the text spells.
-fn check(alloc: Global, text: &[u8]) -> Result<Config, Refusal>
-    ensures { IsChecked text.now result }
-{
-    match read(alloc, text) {
-        Ok(draft) => check_draft(alloc, text, draft),
-        Err(refusal) => Err(refusal),
-    }
-}
-
-/// The configuration that the text spells in the narrow form: each line as it is written, one processor, no volume and
-/// no gate, the instructions `set`, `out` and `halt`, one process of a class, and event items alone.
-///
-/// For every other text the fault has line 0, which is the line of no text, and code 40.
+/// The configuration that the text spells, or its first faulty line with that line's least code. The text has at most
+/// 1,048,576 bytes.
 pub fn read_config(alloc: Global, text: &[u8]) -> Result<Config, ConfigError>
     requires { length text.now ≤ 1048576 }
-    // What is read is spelled so, and a fault comes only where nothing is spelled.
-    ensures right { AnswersNarrow text.now result }
-    // What is spelled is read, unless memory runs out.
-    ensures only { (k : ConfigValue) → SpellsNarrow text.now k → IsReadAs k result }
+    // What is read is spelled so, and a fault is the first one, with its least code.
+    ensures right { AnswersText text.now result }
+    // What is spelled so is read, and what is faulty is refused with that fault, unless memory runs out.
+    ensures only { (k : ConfigValue) → Spells text.now k → IsReadAs k result }
+    ensures refused { (line code : ℕ) → IsFault text.now line code → IsRefusedWith line code result }
 {
-    match check(alloc, text) {
-        Ok(config) => Ok(config),
-        Err(Refusal::Form) => Err(ConfigError::Fault { line: 0, code: 40 }),
-        Err(Refusal::Memory) => Err(ConfigError::NoMemory),
+    let list = line_list(alloc, text)?;
+    match read(alloc, list.as_slice()) {
+        Ok(draft) => Ok(finished(draft)),
+        Err(error) => Err(error),
     }
 }

@@ -1,3 +1,4 @@
 pub mod Fetched
 pub mod Updated
 pub mod Bounds
+pub mod Counted

@@ -51,7 +51,7 @@ impl Fetch {
     ghost use Rattle.words_layout.specs.Named.{op_at};
     ghost use Rattle.turns.specs.Classes.{LoadsOnly};
     ghost use Rattle.policy.specs.Outcome.{Words};
-    ghost use Rattle.std.specs.Option.{option_map};
+    ghost use Rattle.std.specs.Option.{option_map, option_map_or};
     ghost use Rattle.policy.specs.Known.{usable};
     ghost use Rattle.policy.specs.Private.{fetch_tests};
     ghost use Rattle.data_gates.specs.Data.{fetch_body};
@@ -68,12 +68,13 @@ impl Fetch {
         requires known { KnownTo who.now.class (option_map (λ k. k.now) known) }
         ensures act { act_of result ≡ begins (usable (option_map (λ k. k.now) known.entry)) (fetch_tests who.now.ring offset count pad) (λ k. LookAct k.class (OfSegment k.seg) (fetch_body k.seg offset count pad)) }
         ensures fresh { doing_of result ≡ Fresh }
+        ensures class { result.class ≡ option_map_or (λ k. k.class) (usable (option_map (λ k. k.now) known.entry)) who.now.class }
     {
         let Some(known) = usable(known) else {
             return Fetch::refused(who.class, Rule::UnknownSegno);
         };
         if let Some(rule) = fetch_refusal(who.ring, known, offset, count, pad) {
-            return Fetch::refused(who.class, rule);
+            return Fetch::refused(known.class, rule);
         }
         Fetch {
             class: known.class,
@@ -94,6 +95,7 @@ impl Fetch {
         requires { class < 16 }
         ensures act { act_of result ≡ refusing (Refused rule) }
         ensures fresh { doing_of result ≡ Fresh }
+        ensures class { result.class ≡ class }
     {
         Fetch {
             class,
@@ -137,6 +139,7 @@ impl Fetch {
         ensures outcome { result ≡ answers (step_told (act_of self.old) (doing_of self.old) answer) None }
         ensures doing { doing_of self.new ≡ (step_told (act_of self.old) (doing_of self.old) answer).doing }
         ensures act { act_of self.new ≡ act_of self.old }
+        ensures class { self.new.class ≡ self.old.class }
         ensures words { (pad : ℕ) (words : List ℕ) → (step_told (act_of self.old) (doing_of self.old) answer).takes ≡ Some (Words pad words) → self.new.words.items ≡ words }
     {
         if let Some(rule) = self.refusal {
@@ -157,6 +160,7 @@ impl Fetch {
         requires home { self.old.rest ≡ Rest.Home }
         ensures told { step_told (act_of self.old) (doing_of self.old) answer ≡ going (doing_of self.new) }
         ensures act { act_of self.new ≡ act_of self.old }
+        ensures class { self.new.class ≡ self.old.class }
     {
         match home_taken(answer) {
             Home::Resident { frame, .. } => {
@@ -182,6 +186,7 @@ impl Fetch {
         requires words { self.old.rest ≡ Rest.Words }
         ensures told { step_told (act_of self.old) (doing_of self.old) answer ≡ going (doing_of self.new) }
         ensures act { act_of self.new ≡ act_of self.old }
+        ensures class { self.new.class ≡ self.old.class }
     {
         self.words.push(answer);
         if self.words.len() == self.count as usize {
@@ -198,6 +203,7 @@ impl Fetch {
         ensures outcome { result ≡ answers (step_told (act_of self.old) (doing_of self.old) answer) None }
         ensures doing { doing_of self.new ≡ (step_told (act_of self.old) (doing_of self.old) answer).doing }
         ensures act { act_of self.new ≡ act_of self.old }
+        ensures class { self.new.class ≡ self.old.class }
         ensures words { (pad : ℕ) (words : List ℕ) → (step_told (act_of self.old) (doing_of self.old) answer).takes ≡ Some (Words pad words) → self.new.words.items ≡ words }
     {
         match self.look.absorb(answer) {

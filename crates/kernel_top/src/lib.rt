@@ -2,6 +2,7 @@
 #![tactic(auto)]
 
 mod classes;
+mod command;
 mod input;
 mod line;
 mod print;
@@ -11,5 +12,6 @@ mod tests;
 mod thin_run;
 mod top;
 
+pub use command::Command;
 pub use status::{PortFault, Refusal, Status};
 pub use top::sim_main;

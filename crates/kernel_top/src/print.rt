@@ -14,10 +14,17 @@ use crate::thin_run::{ThinProcess, ThinRun};
 use config_text::Config;
 use host_ports::{Failed, Host, push_whole};
 
+/// Pushes a text to port 0.
+pub fn push_text<H: Host>(host: &mut H, text: &[u8]) -> Result<(), Failed>
+    ensures { Prints (H.ports host.old) (H.ports host.new) text.now result }
+{
+    push_whole(host, 0, text)
+}
+
 fn push_line<H: Host>(host: &mut H, line: &Line) -> Result<(), Failed>
     ensures { Prints (H.ports host.old) (H.ports host.new) line.now result }
 {
-    push_whole(host, 0, line.as_slice())
+    push_text(host, line.as_slice())
 }
 
 /// The first line of a section.

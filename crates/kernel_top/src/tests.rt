@@ -29,7 +29,17 @@ const READ_FAULT: Status = Status::HostFault(PortFault::Read { port: 0 });
 
 const WRITE_FAULT: Status = Status::HostFault(PortFault::Write { port: 0 });
 
-const NO_FORM: Status = Status::Refused(Refusal::Config { line: 0, code: 40 });
+/// A valid configuration of two processors.
+const TWO_PROCESSORS: &str =
+    "gemkernel 1\nclasses 1\nclass low 0{}/15{} frames 0 pages 0 volume 0\nprocessors 2\ncycle 0\nrounds 1\nquantum 1\nconsole 0\nend\n";
+
+/// The first one with comments, blanks and a hexadecimal number.
+const WITH_COMMENTS: &str =
+    "gemkernel 1 # text\n\nclasses 2\nclass low 0{}/15{} frames 2 pages 2 volume 0\nclass high 1{}/15{}  frames 2 pages 2 volume 0\nprocessors 1\ncycle 0\nrounds 1\nquantum 1\nconsole 100\nscript 0\nset r2 0x5\nout r2\n@x\nhalt\nend\nprocess 0 0 0 4\nevents 0.0*3\nend";
+
+const fn refused(line: u32, code: u8) -> Status {
+    Status::Refused(Refusal::Config { line, code })
+}
 
 /// A host with this text at port 0, which fails at one pull and one push, counted from 1, or at none.
 fn host_with(
@@ -94,8 +104,10 @@ fn each_answer(rt: HostRuntime) -> Result<(), Fail> {
             WRITE_FAULT,
             "class 0 low\nline 5\nprocess 0 0 ended script 0 place 2 ring 4\nregs 0 0 5 0 0 0 0 0 0 0 0 0 0 0 0 0\n",
         ),
-        ("", 1000, 0, 0, NO_FORM, ""),
-        ("gemkernel 2\n", 1000, 0, 0, NO_FORM, ""),
+        ("", 1000, 0, 0, refused(1, 12), ""),
+        ("gemkernel 1\nclasses 0\n", 1000, 0, 0, refused(2, 4), ""),
+        (TWO_PROCESSORS, 1000, 0, 0, refused(0, 40), ""),
+        (WITH_COMMENTS, 1000, 0, 0, Status::Done, ENDED),
     ];
     for (text, room, pull, push, status, taken) in cases {
         let found = answer(rt.alloc(), &["sim"], text.as_bytes(), room, pull, push)?;
@@ -117,6 +129,23 @@ fn other_words(rt: HostRuntime) -> Result<(), Fail> {
     Ok(())
 }
 
+#[test]
+fn shown(rt: HostRuntime) -> Result<(), Fail> {
+    let cases = [
+        (THREE_STEPS, 1000, Status::Done, THREE_STEPS),
+        (WITH_COMMENTS, 1000, Status::Done, THREE_STEPS),
+        (TWO_PROCESSORS, 1000, Status::Done, TWO_PROCESSORS),
+        (THREE_STEPS, 0, WRITE_FAULT, ""),
+        ("gemkernel 1\n", 1000, refused(2, 12), ""),
+    ];
+    for (text, room, status, taken) in cases {
+        let found = answer(rt.alloc(), &["show"], text.as_bytes(), room, 0, 0)?;
+        assert_eq!(rt; found.0, status, "{text}");
+        assert_eq!(rt; found.1.as_slice(), taken.as_bytes(), "{text}");
+    }
+    Ok(())
+}
+
 /// So many blanks.
 fn blanks(alloc: Global, count: usize) -> Result<Vec<u8>, AllocError> {
     vec![in alloc; b' '; count]
@@ -130,6 +159,6 @@ fn too_long(rt: HostRuntime) -> Result<(), Fail> {
     assert_eq!(rt; found.1.len(), 0);
     let most = blanks(rt.alloc(), 1_048_576)?;
     let rest = answer(rt.alloc(), &["sim"], most.as_slice(), 1000, 0, 0)?;
-    assert_eq!(rt; rest.0, NO_FORM);
+    assert_eq!(rt; rest.0, refused(2, 12));
     Ok(())
 }

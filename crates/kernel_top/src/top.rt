@@ -1,38 +1,24 @@
 //! The top call.
 
-ghost use Rattle.std.specs.Prelude.{◌≡◌, codes, map, IsTrue, ◌↔◌};
+ghost use Rattle.std.specs.Prelude.{◌≡◌, map};
 ghost use Rattle.std.specs.List.{list_any};
 ghost use Rattle.kernel_top.specs.Thin.{run_is_live};
 ghost use Rattle.host_ports.specs.Ports.{SameBut};
-ghost use Rattle.kernel_top.specs.Answer.{IsSim, IsAnswer, UsageShows, FaultShows, LengthShows, SpellingShows, IfRan, IfRead, Reported, PrefixShows, EndShows, SilenceShows, ReadToEnd};
+ghost use Rattle.kernel_top.specs.Answer.{Asks, IsAnswer, UsageShows, FaultShows, LengthShows, SpellingShows, IfRan, IfRead, Reported, Shown, ShowEnds, PrefixShows, EndShows, SilenceShows, ReadToEnd};
 ghost use Rattle.kernel_top.specs.Outcome.{Outcome, RunsAs};
 ghost use Rattle.config_text.specs.Narrow.{IsNarrow};
 ghost use Rattle.config_text.specs.Valid.{IsValid};
 
 use crate::classes::closed_classes;
+use crate::command::{Command, command_of};
 use crate::input::read_text;
-use crate::print::print_report;
+use crate::print::{print_report, push_text};
 use crate::status::{PortFault, Refusal, Status};
 use crate::thin_run::ThinRun;
-use config_text::{Config, ConfigError, read_config};
+use config_print::print_config;
+use config_text::{Config, ConfigError, is_narrow, read_config};
 use host_ports::Host;
 use std::alloc::Global;
-
-fn is_sim_word(word: &str) -> bool
-    ensures { IsTrue result ↔ (word.now ≡ codes "sim") }
-{
-    word == "sim"
-}
-
-/// Whether the words are the one word `sim`.
-fn is_sim(words: &[&str]) -> bool
-    ensures { IsTrue result ↔ IsSim (map (λ w. w.now) words.now) }
-{
-    if words.len() != 1 {
-        return false;
-    }
-    is_sim_word(words[0])
-}
 
 fn some_live(runs: &[ThinRun]) -> bool
     ensures { result ≡ list_any (λ x. run_is_live x.run) runs.now }
@@ -44,7 +30,7 @@ fn some_live(runs: &[ThinRun]) -> bool
 fn run_config<H: Host>(alloc: Global, host: &mut H, config: &Config) -> Status
     requires narrow { IsNarrow config.now }
     requires valid { IsValid config.now }
-    ensures { RunsAs config.now (H.ports host.old) (H.ports host.new) result }
+    ensures { RunsAs Command.Sim config.now (H.ports host.old) (H.ports host.new) result }
 {
     let Ok(runs) = closed_classes(alloc, config) else {
         return Status::NoMemory;
@@ -61,45 +47,86 @@ fn run_config<H: Host>(alloc: Global, host: &mut H, config: &Config) -> Status
     }
 }
 
-/// Runs the configuration at port 0 and prints its report.
-fn simulate<H: Host>(alloc: Global, host: &mut H) -> Status
-    ensures { Outcome (H.ports host.old) (H.ports host.new) result }
+/// Runs a configuration, where it is of the narrow form that is run so far.
+fn run_narrow<H: Host>(alloc: Global, host: &mut H, config: &Config) -> Status
+    requires { IsValid config.now }
+    ensures { RunsAs Command.Sim config.now (H.ports host.old) (H.ports host.new) result }
+{
+    if is_narrow(config) {
+        run_config(alloc, host, config)
+    } else {
+        Status::Refused(Refusal::Config { line: 0, code: 40 })
+    }
+}
+
+/// Prints a configuration.
+fn show_config<H: Host>(alloc: Global, host: &mut H, config: &Config) -> Status
+    requires { IsValid config.now }
+    ensures { RunsAs Command.Show config.now (H.ports host.old) (H.ports host.new) result }
+{
+    let Ok(text) = print_config(alloc, config) else {
+        return Status::NoMemory;
+    };
+    match push_text(host, text.as_bytes()) {
+        Err(_) => Status::HostFault(PortFault::Write { port: 0 }),
+        Ok(()) => Status::Done,
+    }
+}
+
+/// Carries out the command on the configuration at port 0.
+fn carry_out<H: Host>(alloc: Global, host: &mut H, command: Command) -> Status
+    ensures { Outcome command (H.ports host.old) (H.ports host.new) result }
 {
     let text = match read_text(alloc, host) {
         Ok(text) => text,
         Err(status) => return status,
     };
     match read_config(alloc, text.as_slice()) {
-        Ok(config) => run_config(alloc, host, &config),
+        Ok(config) => carry_out_on(alloc, host, command, &config),
         Err(ConfigError::Fault { line, code }) => Status::Refused(Refusal::Config { line, code }),
         Err(ConfigError::NoMemory) => Status::NoMemory,
     }
 }
 
-/// The top call. The one accepted list of words is `sim`: the configuration at port 0 is run by its schedule, and its
-/// report is pushed to port 0, each line as one piece. NoMemory comes before the first byte is pushed.
+/// Carries out the command on this configuration.
+fn carry_out_on<H: Host>(alloc: Global, host: &mut H, command: Command, config: &Config) -> Status
+    requires { IsValid config.now }
+    ensures { RunsAs command config.now (H.ports host.old) (H.ports host.new) result }
+{
+    match command {
+        Command::Sim => run_narrow(alloc, host, config),
+        Command::Show => show_config(alloc, host, config),
+    }
+}
+
+/// The top call. The accepted lists of words are `sim` and `show` alone. By `sim` the configuration at port 0 is run by its
+/// schedule, and its report is pushed to port 0, each line as one piece; by `show` its text is pushed to port 0.
+/// NoMemory comes before the first byte is pushed.
 pub fn sim_main<H: Host>(alloc: Global, words: &[&str], host: &mut H) -> Status
     ensures answers { IsAnswer result }
 
-    // Done or Unfinished: the report of the configuration, written whole.
-    ensures headline { IfRan result (Reported (H.ports host.old 0) (H.ports host.new 0)) }
-    ensures ended { EndShows (H.ports host.old 0).left result }
+    // By `sim`, Done or Unfinished: the report of the configuration, written whole.
+    ensures headline { Asks (map (λ w. w.now) words.now) Command.Sim → IfRan result (Reported (H.ports host.old 0) (H.ports host.new 0)) }
+    ensures ended { Asks (map (λ w. w.now) words.now) Command.Sim → EndShows (H.ports host.old 0).left result }
+
+    // By `show`, Done: the text of the configuration, written whole.
+    ensures shown { Asks (map (λ w. w.now) words.now) Command.Show → IfRan result (Shown (H.ports host.old 0) (H.ports host.new 0)) }
+    ensures show_ends { Asks (map (λ w. w.now) words.now) Command.Show → ShowEnds result }
 
     // Why any other answer comes.
     ensures usage { UsageShows (map (λ w. w.now) words.now) (H.ports host.old) (H.ports host.new) result }
     ensures fault { FaultShows (H.ports host.old 0) (H.ports host.new 0) result }
     ensures length { LengthShows (H.ports host.old 0).left result }
-    ensures spelling { SpellingShows (H.ports host.old 0).left result }
+    ensures spelling { (c : Command) → Asks (map (λ w. w.now) words.now) c → SpellingShows c (H.ports host.old 0).left result }
 
     // What the ports have then.
-    ensures prefix { PrefixShows (H.ports host.old 0) (H.ports host.new 0) result }
+    ensures prefix { (c : Command) → Asks (map (λ w. w.now) words.now) c → PrefixShows c (H.ports host.old 0) (H.ports host.new 0) result }
     ensures silence { SilenceShows (H.ports host.old) (H.ports host.new) result }
     ensures whole_input { IfRead result (ReadToEnd (H.ports host.old 0) (H.ports host.new 0)) }
     ensures other_ports { SameBut 0 (H.ports host.old) (H.ports host.new) }
 {
-    if is_sim(words) {
-        simulate(alloc, host)
-    } else {
-        Status::Usage { kind: 3 }
+    match command_of(words) {
+        Some(command) => carry_out(alloc, host, command),
+        None => Status::Usage { kind: 3 },
     }
 }

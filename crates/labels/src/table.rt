@@ -1,6 +1,6 @@
 //! The table of the access classes.
 
-ghost use Rattle.std.specs.Prelude.{◌≡◌, ◌≢◌, ℕ, ◌<◌, ◌↔◌, IsTrue, IfOk, MatchOption, Result, List, length, map};
+ghost use Rattle.std.specs.Prelude.{◌≡◌, ◌≢◌, ℕ, ◌<◌, ◌≤◌, ◌↔◌, IsTrue, IfOk, MatchOption, Result, List, length, map};
 ghost use Rattle.labels.specs.Label.{ClassEntry, class_at, label_of, at_or_below};
 ghost use Rattle.labels.specs.Order.{Dominates};
 ghost use Rattle.labels.specs.Table.{entry_of, IsTable, IsTableAnswer};
@@ -90,6 +90,14 @@ impl ClassTable {
         ensures { result.now ≡ (class_at self.now class).name }
     {
         self.entries[class as usize].0.as_str()
+    }
+
+    /// A name has at most 16 bytes.
+    pub fn name_law(&self, class: u8)
+        requires { class < length self.now }
+        ensures { length (class_at self.now class).name ≤ 16 }
+    {
+        let _name = self.entries[class as usize].0.as_str();
     }
 
     /// Whether `c <= d`: the label of class d dominates that of class c.

@@ -3,3 +3,12 @@ pub mod Steps
 pub mod Valid
 pub mod Outcome
 pub mod Pieces
+pub mod Bytes
+pub mod Notes
+pub mod Figures
+pub mod Places
+pub mod OperandWords
+pub mod InstrWords
+pub mod Spelled
+pub mod SpellingLaws
+pub mod PrintedProgram

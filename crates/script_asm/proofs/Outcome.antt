@@ -1,8 +1,8 @@
--- What is answered to a script is right, and nothing else is.
+-- What is answered to a script's lines is right, and nothing else is.
 use Rattle.std.proofs.Common.{◌≡◌, ℕ, true, false, cond, eqb, List, [], ◌∷◌, length, Option, Some, None, Result, Ok, Err, refl, sym, ap, ◌∙◌, arith}
 use Rattle.std.specs.Result.{result_err}
 use Rattle.std.proofs.lemmas.Option.{some_pair_parts}
-use Rattle.text_lines.specs.Lines.{lines, words_of}
+use Rattle.text_lines.specs.Lines.{words_of}
 use Rattle.text_lines.specs.Faults.{Rises, Rising, lines_answer}
 use Rattle.text_lines.proofs.FirstFault.{first_fault, faultless, faultless_read, first_fault_read}
 use Rattle.script_lang.specs.declared.instr.Instr.{Instr}
@@ -14,7 +14,9 @@ use Rattle.script_asm.specs.declared.fault.AsmError.TheVariants as error
 use Rattle.script_asm.specs.Operand.{Word}
 use Rattle.script_asm.specs.Script.{code_number, begins_at, op_of, Place, start, name_tests, operand_tests, instr_tests, word_tests, script_rules, words_in}
 use Rattle.script_asm.specs.Answer.{Says, IsFault, AnswersScript, IsReadAs, IsRefusedWith}
+use Rattle.script_asm.specs.Spelling.{Spells}
 use Rattle.script_asm.specs.Reading.{Reads}
+use Rattle.script_asm.proofs.Spelled.{says_spells, spells_says}
 
 -- ---- codes
 
@@ -59,14 +61,14 @@ rising all = record { lines = λ p line more. (omega arith, word_rises all p (wo
 
 -- ---- the answer
 
-abbrev pub answer_of : List ℕ → Result Place (ℕ × Code)
-answer_of text = lines_answer (script_rules (words_in text)) start 1 (lines text)
+abbrev pub answer_of : List (List ℕ) → Result Place (ℕ × Code)
+answer_of ls = lines_answer (script_rules (words_in ls)) start 1 ls
 
-pub read_says : (text : List ℕ) (q : Place) → answer_of text ≡ Ok q → Says text q.program
-read_says text q e = (q, faultless (script_rules (words_in text)) (lines text) start 1 q e, refl)
+pub read_says : (ls : List (List ℕ)) (q : Place) → answer_of ls ≡ Ok q → Says ls q.program
+read_says ls q e = (q, faultless (script_rules (words_in ls)) ls start 1 q e, refl)
 
-pub read_fault : (text : List ℕ) (line n : ℕ) (c : Code) → answer_of text ≡ Err (line, c) → n ≡ code_number c → IsFault text line n
-read_fault text line n c e same = (c, same, first_fault (script_rules (words_in text)) (rising (words_in text)) start (lines text) line c e)
+pub read_fault : (ls : List (List ℕ)) (line n : ℕ) (c : Code) → answer_of ls ≡ Err (line, c) → n ≡ code_number c → IsFault ls line n
+read_fault ls line n c e same = (c, same, first_fault (script_rules (words_in ls)) (rising (words_in ls)) start ls line c e)
 
 abbrev fault_at : ℕ → Code → Result Place (ℕ × Code)
 fault_at line c = Err (line, c)
@@ -74,43 +76,46 @@ fault_at line c = Err (line, c)
 abbrev reached : Place → Result Place (ℕ × Code)
 reached p = Ok p
 
-pub refused_right : (text : List ℕ) (e : AsmError) → Reads (Err e) (answer_of text) → AnswersScript text (Err e)
-refused_right text (error.Fault line n) reads = read_fault text line n reads.0 reads.1 reads.2
-refused_right text error.NoMemory reads = tt
+pub refused_right : (ls : List (List ℕ)) (e : AsmError) → Reads (Err e) (answer_of ls) → AnswersScript ls (Err e)
+refused_right ls (error.Fault line n) reads = read_fault ls line n reads.0 reads.1 reads.2
+refused_right ls error.NoMemory reads = tt
 
--- what the text says is what is read
-pub says_read : (text : List ℕ) (program : List Instr) → Says text program → (q : Place) × (answer_of text ≡ Ok q) × (q.program ≡ program)
-says_read text program s = (s.0, faultless_read (script_rules (words_in text)) (lines text) start 1 s.0 s.1, s.2)
+-- what the ls says is what is read
+pub says_read : (ls : List (List ℕ)) (program : List Instr) → Says ls program → (q : Place) × (answer_of ls ≡ Ok q) × (q.program ≡ program)
+says_read ls program s = (s.0, faultless_read (script_rules (words_in ls)) ls start 1 s.0 s.1, s.2)
 
-pub fault_read : (text : List ℕ) (line n : ℕ) → IsFault text line n → (c : Code) × (answer_of text ≡ Err (line, c)) × (n ≡ code_number c)
-fault_read text line n f = (f.0, first_fault_read (script_rules (words_in text)) (rising (words_in text)) apart start (lines text) line f.0 f.2, f.1)
+pub fault_read : (ls : List (List ℕ)) (line n : ℕ) → IsFault ls line n → (c : Code) × (answer_of ls ≡ Err (line, c)) × (n ≡ code_number c)
+fault_read ls line n f = (f.0, first_fault_read (script_rules (words_in ls)) (rising (words_in ls)) apart start ls line f.0 f.2, f.1)
 
-pub only_program : (text : List ℕ) (q : Place) → answer_of text ≡ Ok q → (program : List Instr) → Says text program → q.program ≡ program
-only_program text q e program s =
-    let r = says_read text program s in
+pub only_program : (ls : List (List ℕ)) (q : Place) → answer_of ls ≡ Ok q → (program : List Instr) → Spells ls program → q.program ≡ program
+only_program ls q e program s =
+    let r = says_read ls program (spells_says ls program s) in
     let both : reached q ≡ reached r.0 = sym e ∙ r.1 in
     let same : q ≡ r.0 = cc in
     ap (λ x. x.program) same ∙ r.2
 
-pub only_error : (text : List ℕ) (e : AsmError) → Reads (Err e) (answer_of text) → (program : List Instr) → Says text program → IsReadAs program (Err e)
-only_error text (error.Fault line n) reads program s =
-    let r = says_read text program s in
+pub only_error : (ls : List (List ℕ)) (e : AsmError) → Reads (Err e) (answer_of ls) → (program : List Instr) → Spells ls program → IsReadAs program (Err e)
+only_error ls (error.Fault line n) reads program s =
+    let r = says_read ls program (spells_says ls program s) in
     let both : reached r.0 ≡ fault_at line reads.0 = sym r.1 ∙ reads.1 in
     absurd cc
-only_error text error.NoMemory reads program s = tt
+only_error ls error.NoMemory reads program s = tt
 
-pub refused_program : (text : List ℕ) (q : Place) → answer_of text ≡ Ok q → (line n : ℕ) → IsFault text line n → ⊥
-refused_program text q e line n f =
-    let r = fault_read text line n f in
+pub refused_program : (ls : List (List ℕ)) (q : Place) → answer_of ls ≡ Ok q → (line n : ℕ) → IsFault ls line n → ⊥
+refused_program ls q e line n f =
+    let r = fault_read ls line n f in
     let both : reached q ≡ fault_at line r.0 = sym e ∙ r.1 in
     absurd cc
 
-pub refused_error : (text : List ℕ) (e : AsmError) → Reads (Err e) (answer_of text) → (line n : ℕ) → IsFault text line n → IsRefusedWith line n (Err e)
-refused_error text (error.Fault l m) reads line n f =
-    let r = fault_read text line n f in
+pub refused_error : (ls : List (List ℕ)) (e : AsmError) → Reads (Err e) (answer_of ls) → (line n : ℕ) → IsFault ls line n → IsRefusedWith line n (Err e)
+refused_error ls (error.Fault l m) reads line n f =
+    let r = fault_read ls line n f in
     let both : fault_at l reads.0 ≡ fault_at line r.0 = sym reads.1 ∙ r.1 in
     let parts = some_pair_parts l line reads.0 r.0 (ap result_err both) in
     (parts.0, reads.2 ∙ ap code_number parts.1 ∙ sym r.2)
-refused_error text error.NoMemory reads line n f = tt
+refused_error ls error.NoMemory reads line n f = tt
 
-pub ruleset outcomes = (read_says, refused_right, only_error, refused_error)
+pub read_spells : (ls : List (List ℕ)) (q : Place) → answer_of ls ≡ Ok q → Spells ls q.program
+read_spells ls q e = says_spells ls q.program (read_says ls q e)
+
+pub ruleset outcomes = (read_spells, refused_right, only_error, refused_error)

@@ -3,7 +3,7 @@ use Rattle.std.proofs.Common.{◌≡◌, ℕ, ◌+◌, false, true, List, [], �
 use Rattle.text_lines.specs.Lines.{words_of}
 use Rattle.text_lines.specs.Faults.{judged, lines_answer}
 use Rattle.text_lines.proofs.FirstFault as generic
-use Rattle.text_lines.proofs.LineCount.{few_lines}
+use Rattle.text_lines.proofs.Passing.{views_at, views_past}
 use Rattle.script_lang.specs.Fault.{ends_well}
 use Rattle.script_asm.specs.declared.fault.Code.{Code}
 use Rattle.script_asm.specs.declared.fault.Code.TheVariants as code
@@ -26,4 +26,4 @@ missing all p n left total e bad so_far = generic.ends_short (script_rules all) 
 pub ends_badly : (all : List (List Word)) (p : Place) (n : ℕ) (left : List (List ℕ)) (total : Result Place (ℕ × Code)) → left ≡ [] → ends_well p.program ≡ false → lines_answer (script_rules all) p n left ≡ total → (c : Code) × (total ≡ Err (n, c)) × (8 ≡ code_number c)
 ends_badly all p n left total e bad so_far = (code.End, missing all p n left total e bad so_far, refl)
 
-pub ruleset steps = (goes_on, stops, ends, ends_badly, few_lines)
+pub ruleset steps = (goes_on, stops, ends, ends_badly, views_at, views_past)

@@ -5,7 +5,7 @@ use Rattle.std.specs.Result.{result_unwrap_or}
 use Rattle.std.specs.List.{list_all}
 use Rattle.std.proofs.lemmas.Bool.{and_from, and_parts, leb-false, lt-ltb, le-leb}
 use Rattle.std.proofs.lemmas.List.{append-nil, length_push}
-use Rattle.text_lines.specs.Lines.{lines, words_of}
+use Rattle.text_lines.specs.Lines.{words_of}
 use Rattle.text_lines.specs.Faults.{judged, and_then, lines_answer}
 use Rattle.text_lines.proofs.FirstFault.{NoneHolds, judged_ok}
 use Rattle.script_lang.specs.declared.instr.Instr.{Instr}
@@ -175,7 +175,12 @@ valid : (program : List Instr) (count : ℕ) → length program ≡ count → le
 valid program count same few targets good =
     and_from _ _ (and_from _ _ (and_from _ _ (le-leb 1 (length program) (some_last program good)) (le-leb (length program) 256 few)) (subst (λ n. list_all (λ i. target_ok n i) program ≡ true) (sym same) targets)) good
 
-pub program_is : (text : List ℕ) (q : Place) → lines_answer (script_rules (words_in text)) start 1 (lines text) ≡ Ok q → program_ok q.program ≡ true
-program_is text q e =
-    let r = reaches (words_in text) (lines text) start 1 q (record { few = omega arith; targets = refl }) e in
-    valid q.program (instructions (words_in text)) (omega (arith, r.longer)) r.good.few r.good.targets r.ends
+pub program_is : (ls : List (List ℕ)) (q : Place) → lines_answer (script_rules (words_in ls)) start 1 ls ≡ Ok q → program_ok q.program ≡ true
+program_is ls q e =
+    let r = reaches (words_in ls) ls start 1 q (record { few = omega arith; targets = refl }) e in
+    valid q.program (instructions (words_in ls)) (omega (arith, r.longer)) r.good.few r.good.targets r.ends
+
+pub few_instructions : (ls : List (List ℕ)) (q : Place) → lines_answer (script_rules (words_in ls)) start 1 ls ≡ Ok q → instructions (words_in ls) ≤ 256
+few_instructions ls q e =
+    let r = reaches (words_in ls) ls start 1 q (record { few = omega arith; targets = refl }) e in
+    omega (arith, r.longer, r.good.few)

@@ -1,26 +1,26 @@
--- What is answered to a script's text.
-use Rattle.std.specs.Prelude.{◌≡◌, ℕ, List, Result, Ok, Err}
-use Rattle.text_lines.specs.Lines.{lines}
+-- What is answered to a script's lines.
+use Rattle.std.specs.Prelude.{◌≡◌, ℕ, ◌-◌, List, true, take, Result, Ok, Err}
 use Rattle.text_lines.specs.Faults.{IsFirstFault, IsFaultless}
 use Rattle.script_lang.specs.declared.instr.Instr.{Instr}
 use Rattle.script_asm.specs.declared.fault.Code.{Code}
 use Rattle.script_asm.specs.declared.fault.AsmError.{AsmError}
 use Rattle.script_asm.specs.declared.fault.AsmError.TheVariants as error
 use Rattle.script_asm.specs.Script.{Place, start, code_number, script_rules, words_in}
+use Rattle.script_asm.specs.Spelling.{are_allowed, Spells}
 
--- No line of the text has a code, and its lines say this program.
-abbrev pub Says : List ℕ → List Instr → Type 0
-Says text program = (p : Place) × IsFaultless (script_rules (words_in text)) start (lines text) p × (p.program ≡ program)
+-- No line has a code, and the lines say this program.
+abbrev pub Says : List (List ℕ) → List Instr → Type 0
+Says ls program = (p : Place) × IsFaultless (script_rules (words_in ls)) start ls p × (p.program ≡ program)
 
--- the first faulty line of the text, counted from 1, and the number of its least code
-abbrev pub IsFault : List ℕ → ℕ → ℕ → Type 0
-IsFault text line number = (c : Code) × (number ≡ code_number c) × IsFirstFault (script_rules (words_in text)) start (lines text) line c
+-- the first faulty line, counted from 1, and the number of its least code
+abbrev pub IsFault : List (List ℕ) → ℕ → ℕ → Type 0
+IsFault ls line number = (c : Code) × (number ≡ code_number c) × IsFirstFault (script_rules (words_in ls)) start ls line c
 
--- what is answered: the program that the text says, its first fault, or want of memory
-abbrev pub AnswersScript : List ℕ → Result (List Instr) AsmError → Type 0
-AnswersScript text (Ok program) = Says text program
-AnswersScript text (Err (error.Fault line number)) = IsFault text line number
-AnswersScript text (Err error.NoMemory) = Unit {0}
+-- what is answered: the program that the lines spell, their first fault, or want of memory
+abbrev pub AnswersScript : List (List ℕ) → Result (List Instr) AsmError → Type 0
+AnswersScript ls (Ok program) = Spells ls program
+AnswersScript ls (Err (error.Fault line number)) = IsFault ls line number
+AnswersScript ls (Err error.NoMemory) = Unit {0}
 
 -- It is read as this program, unless memory runs out.
 abbrev pub IsReadAs : List Instr → Result (List Instr) AsmError → Type 0
@@ -33,3 +33,9 @@ abbrev pub IsRefusedWith : ℕ → ℕ → Result (List Instr) AsmError → Type
 IsRefusedWith line number (Ok p) = ⊥
 IsRefusedWith line number (Err (error.Fault l n)) = (l ≡ line) × (n ≡ number)
 IsRefusedWith line number (Err error.NoMemory) = Unit {0}
+
+-- The lines without a code have only allowed bytes: all lines of a program, and those before the first faulty one.
+abbrev pub AllowsBytes : List (List ℕ) → Result (List Instr) AsmError → Type 0
+AllowsBytes ls (Ok program) = are_allowed ls ≡ true
+AllowsBytes ls (Err (error.Fault line number)) = are_allowed (take (line - 1) ls) ≡ true
+AllowsBytes ls (Err error.NoMemory) = Unit {0}

@@ -1,5 +1,8 @@
 pub mod Operand
 pub mod Script
+pub mod Item
+pub mod Spelling
 pub mod Answer
 pub mod Reading
 pub mod ScriptText
+pub mod Noting

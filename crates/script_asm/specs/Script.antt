@@ -4,7 +4,7 @@ use Rattle.std.specs.Prelude.{ℕ, ◌+◌, ◌-◌, ◌*◌, ◌^◌, List, [],
 use Rattle.std.specs.Result.{result_unwrap_or}
 use Rattle.std.specs.Option.{option_map_or}
 use Rattle.std.specs.Str.{bytes_eq}
-use Rattle.text_lines.specs.Lines.{lines, words_of}
+use Rattle.text_lines.specs.Lines.{words_of}
 use Rattle.text_lines.specs.Number.{misspelt, value_of}
 use Rattle.text_lines.specs.Name.{is_name, all_allowed}
 use Rattle.text_lines.specs.Faults.{Tests, LineRules}
@@ -265,6 +265,6 @@ script_rules all = record {
   last = end_tests;
 }
 
--- the words of the lines of a text
-abbrev pub words_in : List ℕ → List (List Word)
-words_in text = map words_of (lines text)
+-- the words of the lines
+abbrev pub words_in : List (List ℕ) → List (List Word)
+words_in ls = map words_of ls

@@ -2,6 +2,7 @@
 
 ghost use Rattle.std.specs.Prelude.{◌≡◌};
 ghost use Rattle.script_asm.specs.declared.fault.Refusal.TheVariants.{Memory};
+ghost use Rattle.script_asm.specs.declared.fault.AsmError.TheVariants.{NoMemory};
 
 use std::alloc::{AllocError, AllocFailed};
 
@@ -51,10 +52,26 @@ impl<T: Drop> From<AllocFailed<T>> for Refusal {
     }
 }
 
-/// Why a text is no script.
+/// Why a text, or a list of lines, is no script.
 #[derive(Clone, Copy, Debug, PartialEq, Eq)]
 pub enum AsmError {
-    /// The first faulty line, counted from 1, with its least code.
+    /// The first faulty line, counted from 1, with its least code, from 1 to 9.
     Fault { line: u32, code: u8 },
     NoMemory,
+}
+
+impl From<AllocError> for AsmError {
+    ghost from_gives = { λ _ e. e ≡ NoMemory };
+
+    fn from(_e: AllocError) -> AsmError {
+        AsmError::NoMemory
+    }
+}
+
+impl<T: Drop> From<AllocFailed<T>> for AsmError {
+    ghost from_gives = { λ _ e. e ≡ NoMemory };
+
+    fn from(_e: AllocFailed<T>) -> AsmError {
+        AsmError::NoMemory
+    }
 }

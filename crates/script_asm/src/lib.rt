@@ -3,6 +3,7 @@
 
 mod draft;
 mod fault;
+mod laws;
 mod named;
 mod names;
 mod op;
@@ -12,8 +13,9 @@ mod reading;
 mod word;
 
 pub use fault::AsmError;
+pub use laws::{printed_again, spelling_laws};
 pub use printing::print;
-pub use reading::assemble;
+pub use reading::{assemble, read_lines};
 
 #[cfg(test)]
 mod tests;

@@ -1,13 +1,16 @@
 //! The lines of a script, in which names are looked up.
 
-ghost use Rattle.std.specs.Prelude.{◌≡◌, ◌<◌, ◌≤◌, ◌+◌, ◌^◌, length, option_map};
-ghost use Rattle.text_lines.specs.Lines.{words_of};
+ghost use Rattle.std.specs.Prelude.{◌≡◌, ◌<◌, ◌≤◌, ◌^◌, ℕ, List, true, length, option_map, IfOk, OnOk, if◌then◌else◌};
+ghost use Rattle.text_lines.specs.Lines.{views, words_of};
 ghost use Rattle.script_asm.specs.Script as spec;
+ghost use Rattle.script_asm.specs.Noting.{place_in, noted};
 
 use crate::named::Named;
 use crate::word::{begins_at, names_place};
+use indexmap::IndexMap;
+use std::alloc::{AllocError, Global};
 use std::marker::Model;
-use text_lines::{Lines, Words, is_text};
+use text_lines::Words;
 
 /// The first word of a line.
 pub fn first_word(line: &[u8]) -> Option<&[u8]>
@@ -26,83 +29,84 @@ fn starts_instruction(first: Option<&[u8]>) -> bool
     }
 }
 
-/// Whether the first word is the name.
-fn is_word(name: &[u8], first: Option<&[u8]>) -> bool
-    ensures { result ≡ spec.is_word name.now (option_map (λ w. w.now) first.entry) }
+/// The number of instruction lines, of one line with this first word.
+fn instruction_count(first: Option<&[u8]>) -> u64
+    ensures few { result ≤ 1 }
+    ensures count { result ≡ (if spec.starts_instruction (option_map (λ w. w.now) first.entry) then 1 else 0) }
 {
-    match first {
-        Some(word) => is_text(word, name),
-        None => false,
+    if starts_instruction(first) {
+        return 1;
     }
+    0
 }
 
-/// The number of instruction lines.
-#[tactic(auto, using(crate::proofs::Counts::counts))]
-fn instructions(text: &[u8]) -> u64
-    requires { length text.now < 2 ^ 32 }
-    ensures { result ≡ spec.instructions (spec.words_in text.now) }
+/// Notes where the line's name stands, unless an earlier line has the name.
+fn note<'a>(
+    places: &mut IndexMap<&'a [u8], Named>,
+    first: Option<&'a [u8]>,
+    named: Named,
+) -> Result<(), AllocError>
+    ensures { OnOk result ((w : List ℕ) → spec.names_place w ≡ true → place_in places.new w ≡ noted (place_in places.old w) (spec.is_word w (option_map (λ v. v.now) first.entry)) named) }
 {
-    let mut count = 0u64;
-    for line in Lines::new(text) {
-        if starts_instruction(first_word(line)) {
-            count += 1;
-        }
+    let Some(word) = first else {
+        return Ok(());
+    };
+    if !names_place(word) {
+        return Ok(());
     }
-    count
+    if places.get(word).is_none() {
+        places.insert(word, named)?;
+    }
+    Ok(())
 }
 
-/// The first line whose first word is the name.
-#[tactic(auto, using(crate::proofs::Counts::counts))]
-fn first_named(text: &[u8], name: &[u8]) -> Option<Named>
-    requires { length text.now < 2 ^ 32 }
-    ensures { result ≡ spec.first_named (spec.words_in text.now) name.now 0 0 }
-{
-    let mut number = 0u64;
-    let mut place = 0u64;
-    for line in Lines::new(text) {
-        let first = first_word(line);
-        if is_word(name, first) {
-            return Some(Named {
-                line: number,
-                place,
-            });
-        }
-        if starts_instruction(first) {
-            place += 1;
-        }
-        number += 1;
-    }
-    None
-}
-
-/// A script's text and the number of its instruction lines. Contracts see the words of its lines.
+/// A script's lines, where each name stands first, and the number of instruction lines. Contracts see the words of the
+/// lines.
 #[derive(Drop)]
-pub struct Names<'a> {
-    text: &'a [u8],
+pub struct Names<'a, 'b> {
+    lines: &'b [&'a [u8]],
+    places: IndexMap<&'a [u8], Named>,
     count: u64,
 }
 
-impl<'a> Model for Names<'a> {
-    ghost use Rattle.std.specs.Prelude.{List, ℕ, ◌≡◌, ◌<◌, ◌^◌, length};
+impl<'a, 'b> Model for Names<'a, 'b> {
+    ghost use Rattle.std.specs.Prelude.{List, ℕ, ◌≡◌, true};
+    ghost use Rattle.text_lines.specs.Lines.{views};
     ghost use Rattle.script_asm.specs.Script as spec;
+    ghost use Rattle.script_asm.specs.Noting.{place_in};
 
     ghost Value = { List (List (List ℕ)) };
 
-    ghost view = { λ s. spec.words_in s.text.now };
+    ghost view = { λ s. spec.words_in (views s.lines.now) };
 
-    ghost invariant = { λ s. (s.count ≡ spec.instructions (spec.words_in s.text.now)) × (length s.text.now < 2 ^ 32) };
+    ghost invariant = { λ s. (s.count ≡ spec.instructions (spec.words_in (views s.lines.now))) × ((w : List ℕ) → spec.names_place w ≡ true → place_in s.places w ≡ spec.first_named (spec.words_in (views s.lines.now)) w 0 0) };
 }
 
-impl<'a> Names<'a> {
-    /// The lines of this text.
-    pub fn new(text: &'a [u8]) -> Names<'a>
-        requires { length text.now < 2 ^ 32 }
-        ensures { result ≡ spec.words_in text.now }
+impl<'a, 'b> Names<'a, 'b> {
+    /// The names of these lines.
+    #[tactic(auto, using(crate::proofs::Counts::counts))]
+    pub fn new(alloc: Global, lines: &'b [&'a [u8]]) -> Result<Names<'a, 'b>, AllocError>
+        requires { length lines.now < 2 ^ 32 }
+        ensures { IfOk result (λ names. names ≡ spec.words_in (views lines.now)) }
     {
-        Names {
-            text,
-            count: instructions(text),
+        let mut places = IndexMap::new(alloc);
+        let mut count = 0u64;
+        let mut number = 0u64;
+        for line in lines {
+            let first = first_word(line);
+            let named = Named {
+                line: number,
+                place: count,
+            };
+            note(&mut places, first, named)?;
+            count += instruction_count(first);
+            number += 1;
         }
+        Ok(Names {
+            lines,
+            places,
+            count,
+        })
     }
 
     /// The number of instruction lines.
@@ -120,6 +124,6 @@ impl<'a> Names<'a> {
         if !names_place(name) {
             return None;
         }
-        first_named(self.text, name)
+        self.places.get(name).copied()
     }
 }

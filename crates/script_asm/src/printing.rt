@@ -1,9 +1,13 @@
 //! A script, printed.
 
-ghost use Rattle.std.specs.Prelude.{◌≡◌, ◌++◌, ◌∷◌, [], OnOk, IfOk, string_bytes};
+ghost use Rattle.std.specs.Prelude.{◌≡◌, ◌≤◌, length, ◌++◌, ◌∷◌, [], OnOk, IfOk, map, string_bytes};
 ghost use Rattle.std.specs.Fmt.{decimal};
+ghost use Rattle.std.specs.List.{AllByRecursion};
+ghost use Rattle.text_lines.specs.Lines.{lines};
 ghost use Rattle.text_lines.specs.Printed.{spaced};
+ghost use Rattle.script_asm.specs.Item as item;
 ghost use Rattle.script_asm.specs.ScriptText as spec;
+ghost use Rattle.script_asm.specs.Spelling.{Spells};
 
 use crate::op::{Kind, Op, kinds, op_name};
 use script_lang::{Instr, Program};
@@ -11,7 +15,7 @@ use std::alloc::{AllocError, Global};
 
 /// The mnemonic of an instruction.
 fn op_for(instr: &Instr) -> Op
-    ensures { result ≡ spec.op_for instr.now }
+    ensures { result ≡ item.op_for instr.now }
 {
     match instr {
         Instr::Halt => Op::Halt,
@@ -45,7 +49,8 @@ fn op_for(instr: &Instr) -> Op
 
 /// The numbers of its operands, with zeros behind them.
 fn values_of(instr: &Instr) -> [u64; 5]
-    ensures { result ≡ spec.values_of instr.now }
+    ensures values { result ≡ item.values_of instr.now }
+    ensures fits { item.Fits instr.now }
 {
     match instr {
         Instr::Halt => [0, 0, 0, 0, 0],
@@ -117,7 +122,7 @@ fn push_number(alloc: Global, out: &mut String, number: u64) -> Result<(), Alloc
 /// Writes an operand with a blank in front.
 #[tactic(auto, using(crate::proofs::Pieces::pieces))]
 fn push_operand(alloc: Global, out: &mut String, kind: Kind, number: u64) -> Result<(), AllocError>
-    ensures { OnOk result (string_bytes out.new ≡ string_bytes out.old ++ 32 ∷ spec.operand_text kind number) }
+    ensures { OnOk result (string_bytes out.new ≡ string_bytes out.old ++ 32 ∷ item.item_text (item.value kind number)) }
 {
     match kind {
         Kind::Register => out.push_str(" r")?,
@@ -134,7 +139,7 @@ fn push_operands(
     kinds: &[Kind],
     numbers: &[u64],
 ) -> Result<(), AllocError>
-    ensures { OnOk result (string_bytes out.new ≡ string_bytes out.old ++ spec.after_blanks (spec.operand_words kinds.now numbers.now)) }
+    ensures { OnOk result (string_bytes out.new ≡ string_bytes out.old ++ spec.after_blanks (map item.item_text (item.operand_items kinds.now numbers.now))) }
 {
     let [kind, kinds @ ..] = kinds else {
         return Ok(());
@@ -149,7 +154,8 @@ fn push_operands(
 /// Writes the line of an instruction.
 #[tactic(auto, using(crate::proofs::Pieces::pieces))]
 fn push_instr(alloc: Global, out: &mut String, instr: &Instr) -> Result<(), AllocError>
-    ensures { OnOk result (string_bytes out.new ≡ string_bytes out.old ++ (spaced (spec.instr_words instr.now) ++ 10 ∷ [])) }
+    ensures line { OnOk result (string_bytes out.new ≡ string_bytes out.old ++ (spaced (item.instr_words instr.now) ++ 10 ∷ [])) }
+    ensures fits { OnOk result (item.Fits instr.now) }
 {
     let op = op_for(instr);
     out.push_str(op_name(op))?;
@@ -161,7 +167,8 @@ fn push_instr(alloc: Global, out: &mut String, instr: &Instr) -> Result<(), Allo
 /// The text of the instructions.
 #[tactic(auto, using(crate::proofs::Pieces::lists))]
 fn print_list(alloc: Global, program: &[Instr]) -> Result<String, AllocError>
-    ensures { IfOk result (λ t. string_bytes t ≡ spec.script_text program.now) }
+    ensures text { IfOk result (λ t. string_bytes t ≡ spec.script_text program.now) }
+    ensures fits { OnOk result (AllByRecursion item.Fits program.now) }
 {
     let mut out = String::new(alloc);
     for instr in program {
@@ -172,8 +179,12 @@ fn print_list(alloc: Global, program: &[Instr]) -> Result<String, AllocError>
 
 /// The text of a program: one instruction a line with one blank between words, numbers in decimal digits, and each
 /// line ended by a line feed.
+#[tactic(auto, using(crate::proofs::PrintedProgram::printing))]
 pub fn print(alloc: Global, program: &Program) -> Result<String, AllocError>
-    ensures { IfOk result (λ t. string_bytes t ≡ spec.script_text program.now) }
+    ensures text { IfOk result (λ t. string_bytes t ≡ spec.script_text program.now) }
+    // The text spells the program.
+    ensures spells { IfOk result (λ t. Spells (lines (string_bytes t)) program.now) }
+    ensures short { IfOk result (λ t. length (string_bytes t) ≤ 8192) }
 {
     print_list(alloc, program.list())
 }

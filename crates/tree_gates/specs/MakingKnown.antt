@@ -1,5 +1,6 @@
 -- What the code of makeknown stands for, by the class table.
 use Rattle.std.specs.Prelude.{ℕ, ◌≡◌, List, Option, Some, None}
+use Rattle.std.specs.Option.{option_map}
 use Rattle.labels.specs.Label.{ClassEntry}
 use Rattle.words_layout.specs.Words.{OfClass}
 use Rattle.words_layout.specs.declared.coding.Alias.{Alias}
@@ -51,5 +52,9 @@ doing_of table f = make_known_doing table f f.refusal
 -- where a segment is made known, its entry is found; else what was found stays
 abbrev pub FoundBy : MakeKnown → MakeKnown → Option Outcome → Type 0
 FoundBy before after (Some (Learns known)) =
-    (a : Alias) × ((after.found ≡ Some a) × IsEntry a × (known ≡ known_by before.mentor.class a (rights_of before.want.0)))
+    (a : Alias) × ((after.found ≡ Some a) × IsEntry a × (known ≡ known_by after.mentor.class a (rights_of after.want.0)))
 FoundBy before after _ = after.found ≡ before.found
+
+-- the segment that was made known, by its entry, the mentor's class and the mode
+abbrev pub learnt : MakeKnown → Option Known
+learnt f = option_map (λ a. known_by f.mentor.class a (rights_of f.want.0)) f.found

@@ -1,6 +1,6 @@
 //! Makeknown: a look at the class of the mentor, whose body loads the entry.
 
-ghost use Rattle.std.specs.Prelude.{◌≡◌, ◌<◌, length};
+ghost use Rattle.std.specs.Prelude.{◌≡◌, ◌<◌, Some, length};
 ghost use Rattle.words_layout.specs.Limits.{IsIdentity};
 ghost use Rattle.turns.specs.Parts.{look_in_body};
 ghost use Rattle.turns.specs.declared.guard.Guard.{Guard};
@@ -11,8 +11,8 @@ ghost use Rattle.tree_gates.specs.declared.make_known.Rest.{Rest};
 use gate_parts::{entry_taken, no_segment};
 use labels::ClassTable;
 use policy::{
-    Caller, Known, Outcome, Reply, Rights, Rule, brackets_in, in_table, make_known_refusal, usable,
-    verdict,
+    Caller, Known, Outcome, Reply, Rights, Rule, brackets_in, in_table, known_by,
+    make_known_refusal, usable, verdict,
 };
 use rings::Ring;
 use turns::{Guard, Look, LookStep};
@@ -49,15 +49,16 @@ pub struct MakeKnown {
     ghost in_limits: { (class < 16) × (mentor.class < 16) × IsIdentity mentor.seg × (entry < 8) },
     ghost in_body: { look_in_body look.part ≡ loads rest },
     ghost fits: { (a : Alias) → rest ≡ Rest.Learns a → IsEntry a },
+    ghost found_fits: { (a : Alias) → found ≡ Some a → IsEntry a },
 }
 
 impl MakeKnown {
-    ghost use Rattle.std.specs.Prelude.{ℕ, List, false, None};
+    ghost use Rattle.std.specs.Prelude.{ℕ, List, false, Some, None};
     ghost use Rattle.std.specs.Option.{option_map};
     ghost use Rattle.labels.specs.Label.{ClassEntry};
     ghost use Rattle.words_layout.specs.Named.{op_at};
     ghost use Rattle.words_layout.specs.Coding.{entry_of};
-    ghost use Rattle.policy.specs.Known.{usable, in_table};
+    ghost use Rattle.policy.specs.Known.{Known, usable, in_table};
     ghost use Rattle.policy.specs.Outcome.{Refused, shown};
     ghost use Rattle.policy.specs.Verdict.{first_broken};
     ghost use Rattle.policy.specs.Private.{make_known_tests};
@@ -65,7 +66,7 @@ impl MakeKnown {
     ghost use Rattle.turns.specs.Doing.{Told, Fresh, going};
     ghost use Rattle.turns.specs.Stands.{step_op, step_told, refusing};
     ghost use Rattle.gate_parts.specs.Replies.{IsKnown, KnownTo, answers, begins, unless_broken, reply_of};
-    ghost use Rattle.tree_gates.specs.MakingKnown.{make_known_by, act_of, doing_of, make_known_shows, FoundBy};
+    ghost use Rattle.tree_gates.specs.MakingKnown.{make_known_by, act_of, doing_of, make_known_shows, learnt, FoundBy};
 
     /// Begins it. `full` says that the caller's known table has no empty place.
     #[tactic(auto, using(crate::proofs::Begun::usable_known, crate::proofs::Begun::usable_within))]
@@ -83,10 +84,11 @@ impl MakeKnown {
         ensures fresh { (table : List ClassEntry) → doing_of table result ≡ Fresh }
         ensures class { result.class ≡ who.now.class }
         ensures found { result.found ≡ None }
+        ensures mentor { (k : Known) → usable (option_map (λ k. k.now) known.entry) ≡ Some k → result.mentor ≡ k }
     {
         match usable(known) {
             Some(known) => MakeKnown::begun(who, known, entry, mode, full),
-            None => MakeKnown::refused(who, Rule::UnknownSegno),
+            None => MakeKnown::refused(who, no_segment(), Rule::UnknownSegno),
         }
     }
 
@@ -100,9 +102,10 @@ impl MakeKnown {
         ensures fresh { (table : List ClassEntry) → doing_of table result ≡ Fresh }
         ensures class { result.class ≡ who.now.class }
         ensures found { result.found ≡ None }
+        ensures mentor { result.mentor ≡ known.now }
     {
         if let Some(rule) = make_known_refusal(who.ring, known, entry, mode, full) {
-            return MakeKnown::refused(who, rule);
+            return MakeKnown::refused(who, *known, rule);
         }
         MakeKnown {
             class: who.class,
@@ -118,14 +121,15 @@ impl MakeKnown {
     }
 
     /// Refused by a private test.
-    fn refused(who: &Caller, rule: Rule) -> MakeKnown
-        requires { who.now.class < 16 }
+    fn refused(who: &Caller, mentor: Known, rule: Rule) -> MakeKnown
+        requires who { who.now.class < 16 }
+        requires mentor { IsKnown mentor }
         ensures act { (table : List ClassEntry) → act_of table result ≡ refusing (Refused rule) }
         ensures fresh { (table : List ClassEntry) → doing_of table result ≡ Fresh }
         ensures class { result.class ≡ who.now.class }
         ensures found { result.found ≡ None }
+        ensures mentor { result.mentor ≡ mentor }
     {
-        let mentor = no_segment();
         MakeKnown {
             class: who.class,
             ring: who.ring,
@@ -161,6 +165,7 @@ impl MakeKnown {
         ensures doing { doing_of table.now self.new ≡ (step_told (act_of table.now self.old) (doing_of table.now self.old) answer).doing }
         ensures act { (any : List ClassEntry) → act_of any self.new ≡ act_of any self.old }
         ensures class { self.new.class ≡ self.old.class }
+        ensures mentor { self.new.mentor ≡ self.old.mentor }
         ensures found { FoundBy self.old self.new (step_told (act_of table.now self.old) (doing_of table.now self.old) answer).takes }
     {
         if let Some(rule) = self.refusal {
@@ -183,6 +188,7 @@ impl MakeKnown {
         ensures told { step_told (act_of table.now self.old) (doing_of table.now self.old) answer ≡ going (doing_of table.now self.new) }
         ensures act { (any : List ClassEntry) → act_of any self.new ≡ act_of any self.old }
         ensures class { self.new.class ≡ self.old.class }
+        ensures mentor { self.new.mentor ≡ self.old.mentor }
         ensures found { self.new.found ≡ self.old.found }
     {
         self.rest = self.judged(table, answer);
@@ -225,6 +231,7 @@ impl MakeKnown {
         ensures doing { (table : List ClassEntry) → doing_of table self.new ≡ (step_told (act_of table self.old) (doing_of table self.old) answer).doing }
         ensures act { (any : List ClassEntry) → act_of any self.new ≡ act_of any self.old }
         ensures class { self.new.class ≡ self.old.class }
+        ensures mentor { self.new.mentor ≡ self.old.mentor }
         ensures found { (table : List ClassEntry) → FoundBy self.old self.new (step_told (act_of table self.old) (doing_of table self.old) answer).takes }
     {
         match self.look.absorb(answer) {
@@ -258,5 +265,18 @@ impl MakeKnown {
         ensures { result ≡ self.now.found }
     {
         self.found
+    }
+
+    /// The segment that was made known, with the rights that the mode gives, after Done with code 0, else None.
+    pub fn learnt(&self) -> Option<Known>
+        ensures { result ≡ learnt self.now }
+    {
+        let alias = self.found?;
+        let rights = if self.want == Rights::MODIFY {
+            Rights::SIGNAL
+        } else {
+            self.want
+        };
+        Some(known_by(self.mentor.class, &alias, rights))
     }
 }

@@ -1,3 +1,5 @@
 pub mod Looking
 pub mod Turning
 pub mod Nesting
+pub mod Whole
+pub mod ByItself

@@ -1,5 +1,6 @@
 -- The classes of the words that an operation names.
-use Rattle.std.specs.Prelude.{ℕ, ◌≡◌}
+use Rattle.std.specs.Prelude.{ℕ, ◌≡◌, List}
+use Rattle.std.specs.List.{Contains}
 use Rattle.words_layout.specs.Words.{class_of}
 use Rattle.words_layout.specs.declared.op.Op.{Op}
 use Rattle.words_layout.specs.declared.op.Op.TheVariants as O
@@ -17,3 +18,10 @@ LoadsOnly x O.Nothing = Unit {0}
 LoadsOnly x (O.Load a) = class_of a.0 ≡ x
 LoadsOnly x (O.Store a v) = ⊥
 LoadsOnly x (O.Add a v) = ⊥
+
+-- it changes no word, and a word that it loads is of one of these classes
+abbrev pub LoadsAmong : (classes : List ℕ) → Op → Type 0
+LoadsAmong classes O.Nothing = Unit {0}
+LoadsAmong classes (O.Load a) = Contains classes (class_of a.0)
+LoadsAmong classes (O.Store a v) = ⊥
+LoadsAmong classes (O.Add a v) = ⊥

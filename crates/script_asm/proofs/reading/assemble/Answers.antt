@@ -1,25 +1,25 @@
-use Rattle.std.proofs.Common.{◌≡◌, Ok, Err, subst, ◌∙◌}
-use Rattle.script_asm.specs.Reading.{place_of, Reads}
-use Rattle.script_asm.proofs.Valid.{program_is}
-use Rattle.script_asm.proofs.Outcome.{answer_of, only_program, only_error, refused_program}
+use Rattle.std.proofs.Common.{◌≡◌, length, sym, ap, subst, ◌∙◌, arith}
+use Rattle.std.proofs.lemmas.List.{length-map}
+use Rattle.text_lines.specs.Lines.{lines, views}
+use Rattle.text_lines.proofs.LineCount.{few_lines}
+use Rattle.script_asm.specs.Spelling.{Spells}
+use Rattle.script_asm.specs.Answer.{IsFault}
 use Rattle.script_asm.proofs.reading.assemble.Goals as goal
 
-pub finished-requires : goal.finished-requires
-finished-requires c =
-    let read = subst (λ t. answer_of t ≡ Ok (place_of c.in-Ok.draft)) c.as_bytes.ensures.value c.in-Ok.ensures in
-    program_is c.args.text.now (place_of c.in-Ok.draft) read
+pub read_lines-requires : goal.read_lines-requires
+read_lines-requires c =
+    let same : views c.as_slice.result.now ≡ lines c.args.text.now = ap views c.as_slice.ensures.value ∙ c.in_ok-list.ensures ∙ ap lines c.as_bytes.ensures.value in
+    let many : length (views c.as_slice.result.now) ≡ length c.as_slice.result.now = length-map c.as_slice.result.now (λ w. w.now) in
+    let few = few_lines c.args.text.now in
+    let equal = ap length same in
+    omega arith
 
-pub returns-in-Ok-clause-only : goal.returns-in-Ok-clause-only
-returns-in-Ok-clause-only c =
-    let read = subst (λ t. answer_of t ≡ Ok (place_of c.in-Ok.draft)) c.as_bytes.ensures.value c.in-Ok.ensures in
-    λ program says. c.finished.ensures ∙ only_program c.args.text.now (place_of c.in-Ok.draft) read program says
+pub returns-clause-only : goal.returns-clause-only
+returns-clause-only c =
+    let same : views c.as_slice.result.now ≡ lines c.args.text.now = ap views c.as_slice.ensures.value ∙ c.in_ok-list.ensures ∙ ap lines c.as_bytes.ensures.value in
+    λ program says. c.read_lines.ensures.only program (subst (λ ls. Spells ls program) (sym same) says)
 
-pub returns-in-Ok-clause-refused : goal.returns-in-Ok-clause-refused
-returns-in-Ok-clause-refused c =
-    let read = subst (λ t. answer_of t ≡ Ok (place_of c.in-Ok.draft)) c.as_bytes.ensures.value c.in-Ok.ensures in
-    λ line code fault. refused_program c.args.text.now (place_of c.in-Ok.draft) read line code fault
-
-pub returns-in-Err-clause-only : goal.returns-in-Err-clause-only
-returns-in-Err-clause-only c =
-    let read = subst (λ t. Reads (Err c.in-Err.error) (answer_of t)) c.as_bytes.ensures.value c.in-Err.ensures in
-    λ program says. only_error c.args.text.now c.in-Err.error read program says
+pub returns-clause-refused : goal.returns-clause-refused
+returns-clause-refused c =
+    let same : views c.as_slice.result.now ≡ lines c.args.text.now = ap views c.as_slice.ensures.value ∙ c.in_ok-list.ensures ∙ ap lines c.as_bytes.ensures.value in
+    λ line code fault. c.read_lines.ensures.refused line code (subst (λ ls. IsFault ls line code) (sym same) fault)

@@ -1,0 +1,5 @@
+pub mod Overwrites
+pub mod SharedLaws
+pub mod Plans
+pub mod Programs
+pub mod Passed

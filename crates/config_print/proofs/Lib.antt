@@ -1,0 +1,4 @@
+pub mod Pieces
+pub mod Joined
+pub mod PlainLines
+pub mod PrintedConfig

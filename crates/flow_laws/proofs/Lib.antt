@@ -1,0 +1,12 @@
+pub mod LowPlan
+pub mod LowStep
+pub mod Unwinding
+pub mod Slots
+pub mod Fitting
+pub mod Sound
+pub mod Lists
+pub mod Records
+pub mod LowOpening
+pub mod OpeningFits
+pub mod FlowLaws
+pub mod LowValid

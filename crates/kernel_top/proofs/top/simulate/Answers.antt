@@ -1,6 +1,0 @@
-use Rattle.config_text.specs.Narrow.{SpellsNarrow}
-use Rattle.kernel_top.proofs.Answers.{ran, spelled_as}
-use Rattle.kernel_top.proofs.top.simulate.Goals as goal
-
-pub returns-in-Ok-read_config : goal.returns-in-Ok-read_config
-returns-in-Ok-read_config g c = ran _ _ _ _ _ _ c.in-Ok.ensures.text (spelled_as _ _ _ c.as_slice.ensures.value c.in-Ok-read_config.ensures.right) c.run_config.ensures

@@ -1,0 +1,7 @@
+pub mod Slots
+pub mod Absorbing
+pub mod Stepping
+pub mod Events
+pub mod Ended
+pub mod Plain
+pub mod Fitting

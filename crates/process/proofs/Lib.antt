@@ -1,0 +1,13 @@
+pub mod Places
+pub mod Told
+pub mod Bodies
+pub mod Planning
+pub mod Keeping
+pub mod Loaded
+pub mod Stepping
+pub mod Bodied
+pub mod Beginning
+pub mod Classes
+pub mod Asked
+pub mod Absorbing
+pub mod Stands

@@ -1,0 +1,9 @@
+pub mod Printing
+pub mod Taken
+pub mod Paged
+pub mod Recorded
+pub mod OpeningHolds
+pub mod LiveSections
+pub mod SameSections
+pub mod LowSections
+pub mod ShownLaws

@@ -1,0 +1,6 @@
+pub mod Ranges
+pub mod Draws
+pub mod Sweeps
+pub mod InOrder
+pub mod Counts
+pub mod InRange

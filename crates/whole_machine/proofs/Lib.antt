@@ -1,0 +1,5 @@
+pub mod Lookups
+pub mod Changes
+pub mod TakesPlace
+pub mod Counting
+pub mod Raised

@@ -1,0 +1,4 @@
+pub mod Cells
+pub mod Parts
+pub mod Shows
+pub mod Pools
