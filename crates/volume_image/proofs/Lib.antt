@@ -1,0 +1,11 @@
+pub mod Loops
+pub mod Taking
+pub mod HeadLaws
+pub mod RecordLaws
+pub mod Bounds
+pub mod Growing
+pub mod Counting
+pub mod Whole
+pub mod Putting
+pub mod VolumeLaws
+pub mod FaultLaws
