@@ -1,7 +1,8 @@
 -- Counting over identities in order.
-use Rattle.std.proofs.Common.{ℕ, zero, suc, ◌≡◌, ◌+◌, ◌∙◌, ap, subst, Bool, List, [], ◌∷◌, ◌++◌, map, refl, arith, append-nil}
+use Rattle.std.proofs.Common.{ℕ, zero, suc, ◌≡◌, ◌+◌, ◌∙◌, ap, subst, sym, Bool, true, false, List, [], ◌∷◌, ◌++◌, map, refl, arith, append-nil}
 use Rattle.std.specs.Prelude.{count_by, cond}
-use Rattle.std.specs.List.{flat_map}
+use Rattle.std.specs.List.{flat_map, filter}
+use Rattle.std.proofs.lemmas.List.Elements.{filter-append}
 use Rattle.std.proofs.lemmas.List.{map-append}
 use Rattle.std.proofs.lemmas.List.Sums.{sum_by-append}
 use Rattle.std.proofs.lemmas.Grind.{flat_map-append}
@@ -39,3 +40,16 @@ mentors_counted p m =
     ap (λ xs. count_by p xs) (flat_map-append (λ j. map (λ i. seg j i) (below 64)) (below m) (m ∷ [])) ∙
     counted p (identities m) (flat_map (λ j. map (λ i. seg j i) (below 64)) (m ∷ [])) ∙
     ap (λ xs. count_by p (identities m) + count_by p xs) (one_row m)
+
+filter_more : (p : ℕ → Bool) (m : ℕ) → filter p (below (m + 1)) ≡ filter p (below m) ++ cond (p m) (m ∷ []) []
+filter_more p m = ap (filter p) (below_more m) ∙ filter-append p (below m) (m ∷ [])
+
+-- one more number that is kept
+pub kept_more : (p : ℕ → Bool) (m : ℕ) (xs new : List ℕ) → p m ≡ true → xs ≡ filter p (below m) → new ≡ xs ++ m ∷ [] → new ≡ filter p (below (m + 1))
+kept_more p m xs new holds e n =
+    n ∙ ap (λ ys. ys ++ m ∷ []) e ∙ ap (λ t. filter p (below m) ++ cond t (m ∷ []) []) (sym holds) ∙ sym (filter_more p m)
+
+-- or left out
+pub left_more : (p : ℕ → Bool) (m : ℕ) (xs : List ℕ) → p m ≡ false → xs ≡ filter p (below m) → xs ≡ filter p (below (m + 1))
+left_more p m xs fails e =
+    e ∙ sym (append-nil (filter p (below m))) ∙ ap (λ t. filter p (below m) ++ cond t (m ∷ []) []) (sym fails) ∙ sym (filter_more p m)

@@ -3,3 +3,11 @@ pub mod Changes
 pub mod TakesPlace
 pub mod Counting
 pub mod Raised
+pub mod Banked
+pub mod Registers
+pub mod Fitting
+pub mod Stepped
+pub mod Pieces
+pub mod SegmentPieces
+pub mod Openings
+pub mod Filled

@@ -2,3 +2,8 @@ pub mod Cells
 pub mod Parts
 pub mod Shows
 pub mod Pools
+pub mod Fits
+pub mod Steps
+pub mod Slots
+pub mod Texts
+pub mod Readers

@@ -5,6 +5,7 @@ ghost use Rattle.std.specs.Option.{option_map};
 ghost use Rattle.lists.specs.Lists.{overwrite, part_of};
 ghost use Rattle.class_model.specs.State.{Cell, Stored, In, Deleted, blank_cell, entry_at, has_entry, is_in, is_deleted, live_words};
 ghost use Rattle.class_model.specs.Step.{with_entry};
+ghost use Rattle.class_model.specs.Section.{home_name, never, shown_words, is_touched};
 
 use class_model::write_over;
 use std::alloc::{AllocError, Global};
@@ -108,6 +109,57 @@ impl CellState {
             Whereabouts::In(live) => live.as_slice(),
             _ => &[],
         }
+    }
+
+    /// Its home in a word.
+    pub(crate) fn home_name(&self) -> &'static str
+        ensures { result.now ≡ home_name self.now.home }
+    {
+        match &self.home {
+            Whereabouts::Never => "never",
+            Whereabouts::Stored => "stored",
+            Whereabouts::In(_) => "in",
+            Whereabouts::Deleted => "deleted",
+        }
+    }
+
+    /// The words that are shown: the live ones where it is in, the stored ones where it is out.
+    pub(crate) fn shown_words(&self) -> Option<&[u64]>
+        ensures { option_map (λ v. v.now) result ≡ shown_words self.now.home self.now.stored }
+    {
+        match &self.home {
+            Whereabouts::In(live) => Some(live.as_slice()),
+            Whereabouts::Stored => match &self.stored {
+                Some(words) => Some(words.as_slice()),
+                None => None,
+            },
+            _ => None,
+        }
+    }
+
+    /// Its eight entries.
+    pub(crate) fn entries(&self) -> &[Option<Alias>; 8]
+        ensures { result.now ≡ self.now.entries }
+    {
+        &self.entries
+    }
+
+    /// Whether its home is Never.
+    fn is_never(&self) -> bool
+        ensures { result ≡ never self.now.home }
+    {
+        matches!(self.home, Whereabouts::Never)
+    }
+
+    /// Whether it has been touched, where its eventcount is this.
+    pub(crate) fn is_touched(&self, count: u64) -> bool
+        ensures { result ≡ is_touched self.now count }
+    {
+        !self.is_never()
+            || 0 < self.writes()
+            || 0 < count
+            || 0 < self.sequencer()
+            || self.has_entry()
     }
 
     /// The number of writes.

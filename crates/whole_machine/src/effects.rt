@@ -217,8 +217,8 @@ impl PartState {
         }
     }
 
-    /// The refusal of `update` by the state.
-    fn update_refusal(&self, seg: SegId) -> Option<Rule>
+    /// The refusal of words that aren't live.
+    pub(crate) fn words_refusal(&self, seg: SegId) -> Option<Rule>
         ensures { result ≡ first_broken (
             (is_deleted (cell_in self.now.cells seg) ⇒ Rule.Gone) ∷ (not (is_in (cell_in self.now.cells seg)) ⇒ Rule.NotIn) ∷ []) }
     {
@@ -256,7 +256,7 @@ impl PartState {
         ensures ok { IfOk result (λ shown. Shows (update_effect (part_in self.old) seg offset words.now) self.new shown) }
         ensures err { OnErr result (Stands self.new self.old) }
     {
-        match self.update_refusal(seg) {
+        match self.words_refusal(seg) {
             Some(rule) => Ok(Shown::Refused(rule)),
             None => {
                 let count = self.write_words(seg, offset, words)?;

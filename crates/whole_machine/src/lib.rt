@@ -1,9 +1,29 @@
 //! The machine of whole instructions as a plain and slow program on lists.
 #![tactic(auto)]
 
+mod asking;
+mod bank;
+mod building;
 mod cell;
 mod cells;
 mod counts;
 mod effects;
+mod filling;
+mod looks;
+mod name;
 mod part;
 mod pools;
+mod processes;
+mod readers;
+mod section;
+mod segments;
+mod state;
+mod step;
+mod text;
+
+pub use name::ProcName;
+pub use section::model_section;
+pub use state::{ModelState, model_step};
+
+#[cfg(test)]
+mod tests;

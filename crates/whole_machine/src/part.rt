@@ -61,6 +61,13 @@ impl PartState {
         })
     }
 
+    /// The console lines.
+    pub(crate) fn lines(&self) -> &[u64]
+        ensures { result.now ≡ self.now.lines }
+    {
+        self.lines.as_slice()
+    }
+
     /// The cell of an identity.
     pub(crate) fn cell(&self, seg: SegId) -> &CellState
         ensures { result.now ≡ cell_in self.now.cells seg }
