@@ -155,6 +155,13 @@ impl ProcessState {
         self.regs[number.number() as usize]
     }
 
+    /// What all registers hold.
+    pub fn registers(&self) -> &[u64; 16]
+        ensures { result.now ≡ self.now.regs }
+    {
+        &self.regs
+    }
+
     /// Whether it has not ended.
     pub fn is_live(&self) -> bool
         ensures { result ≡ self.now.live }

@@ -7,7 +7,7 @@ use Rattle.std.proofs.lemmas.List.{get_or_past}
 use Rattle.std.proofs.lemmas.List.Folds.{sum_by-zero}
 use Rattle.process.specs.Standing.{Standing}
 use Rattle.machine.specs.Processing.{Processing, holds_live, live_count, lives_in}
-use Rattle.machine.specs.Banks.{vp_in, vp_at, State}
+use Rattle.machine.specs.Banks.{no_processing, vp_in, vp_at, State}
 use Rattle.machine.specs.Steps.{HasEnded}
 use Rattle.machine.proofs.Slots.{no_lives}
 
@@ -27,7 +27,7 @@ module _ {W : Type 0} (m : State W) (class : ℕ) where
   ended_at : ((p : ℕ) → p < length m.banks → live_count (vp_at m.banks p class).slots ≡ 0) → (p slot : ℕ) → (p < length m.banks) ⊎ (length m.banks ≤ p) →
       lives_in (vp_at m.banks p class).slots slot ≡ false
   ended_at h p slot (inl lt) = no_lives (vp_at m.banks p class).slots slot (h p lt)
-  ended_at h p slot (inr past) = ap (λ (bank : List Processing). lives_in (vp_in bank class).slots slot) (get_or_past m.banks p [] past)
+  ended_at h p slot (inr past) = ap (λ (bank : List Processing). lives_in (vp_in bank class).slots slot) (get_or_past m.banks p [] past) ∙ no_lives no_processing.slots slot refl
 
   -- where no bank counts a live process of the class
   pub has_ended : ((p : ℕ) → p < length m.banks → live_count (vp_at m.banks p class).slots ≡ 0) → HasEnded m class

@@ -1,13 +1,13 @@
 -- The virtual processors of all processors, and the step machine that a machine in memory stands for.
-use Rattle.std.specs.Prelude.{ℕ, List, [], slice_index_or, slice_set}
+use Rattle.std.specs.Prelude.{ℕ, List, [], ◌∷◌, None, slice_index_or, slice_set}
 use Rattle.words_layout.specs.Named.{words_in}
 use Rattle.class_model.specs.Config.{Shared}
 use Rattle.machine.specs.Machine.{Machine}
 use Rattle.machine.specs.Processing.{Processing, vp_of}
 
--- a virtual processor with nothing in it, which stands for one that there isn't
+-- a virtual processor with four empty slots, which stands for one that there isn't
 abbrev pub no_processing : Processing
-no_processing = record { class = 0; slots = []; current = 0; lines = []; room = 0 }
+no_processing = record { class = 0; slots = None ∷ None ∷ None ∷ None ∷ []; current = 0; lines = []; room = 0 }
 
 -- the bank of a processor: one virtual processor for each class, in class order
 abbrev pub bank_at : List (List Processing) → ℕ → List Processing

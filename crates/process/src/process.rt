@@ -99,6 +99,13 @@ impl Process {
         self.state.register(number)
     }
 
+    /// What all registers hold.
+    pub fn registers(&self) -> &[u64; 16]
+        ensures { result.now ≡ self.now.process.regs }
+    {
+        self.state.registers()
+    }
+
     /// Whether it has not ended.
     pub fn is_live(&self) -> bool
         ensures { result ≡ self.now.process.live }
