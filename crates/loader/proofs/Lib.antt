@@ -1,0 +1,10 @@
+pub mod Lists
+pub mod Validity
+pub mod Copies
+pub mod Slots
+pub mod Banks
+pub mod Words
+pub mod Loaded
+pub mod Searching
+pub mod FirstOfAll
+pub mod Records
