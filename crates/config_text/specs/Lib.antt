@@ -6,4 +6,3 @@ pub mod Rules
 pub mod Views
 pub mod Reading
 pub mod Text
-pub mod Narrow

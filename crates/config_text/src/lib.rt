@@ -5,7 +5,6 @@ mod config;
 mod draft;
 mod fault;
 mod judging;
-mod narrow;
 mod reading;
 mod stage;
 mod steps;
@@ -15,5 +14,4 @@ mod words;
 
 pub use config::{Config, GateLine, Item, Pool, ProcessLine, Script};
 pub use fault::ConfigError;
-pub use narrow::is_narrow;
 pub use reading::read_config;

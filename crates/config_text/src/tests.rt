@@ -1,6 +1,6 @@
 //! Texts, and the fault of each.
 
-use crate::{Config, ConfigError, Item, Pool, ProcessLine, is_narrow, read_config};
+use crate::{Config, ConfigError, Item, Pool, ProcessLine, read_config};
 use rings::Ring;
 use std::alloc::Global;
 use std::test::Fail;
@@ -380,14 +380,14 @@ fn faults_of_scripts(rt: HostRuntime) -> Result<(), Fail> {
     Ok(())
 }
 
-/// A configuration of the narrow form, but for what follows.
-const NARROW: &str =
+/// The lines of a configuration up to its schedule.
+const UP_TO_THE_SCHEDULE: &str =
     "gemkernel 1\nclasses 2\nclass low 0{}/15{} frames 2 pages 3 volume 0\nclass high 1{2}/15{} frames 2 pages 2 volume 0\nprocessors 1\ncycle 1 0\nrounds 7\nquantum 9\nconsole 100\nscript 0 # one\nset r2 0x5\n@end\nhalt\nend\nprocess 0 1 0 4\n";
 
 /// The configuration of both parts.
 fn read(alloc: Global, back: &str) -> Result<Config, Fail> {
     let mut text = Vec::new(alloc);
-    text.extend_from_slice(NARROW.as_bytes())?;
+    text.extend_from_slice(UP_TO_THE_SCHEDULE.as_bytes())?;
     text.extend_from_slice(back.as_bytes())?;
     if text.len() > 1_048_576 {
         return Err("long")?;
@@ -434,20 +434,5 @@ fn a_configuration(rt: HostRuntime) -> Result<(), Fail> {
     ];
     assert_eq!(rt; config.schedule.as_slice(), items.as_slice());
     assert_eq!(rt; config.scripts.len(), 1);
-    assert!(rt; !is_narrow(&config));
-    Ok(())
-}
-
-#[test]
-fn narrow_or_not(rt: HostRuntime) -> Result<(), Fail> {
-    let rest = [
-        ("events 0.1*3 0.0*4\nend", true),
-        ("process 0 1 0 4\nend", false),
-        ("mix 5 6\nend", false),
-        ("end", true),
-    ];
-    for (back, wanted) in rest {
-        assert_eq!(rt; is_narrow(&read(rt.alloc(), back)?), wanted, "{back}");
-    }
     Ok(())
 }

@@ -14,13 +14,13 @@ use Rattle.kernel_top.specs.declared.status.Refusal.TheVariants.{Config, Class, 
 use Rattle.kernel_top.specs.declared.status.PortFault.TheVariants.{Read, Write, Disk}
 use Rattle.kernel_top.specs.declared.command.Command.{Command}
 use Rattle.kernel_top.specs.declared.command.Command.TheVariants.{Sim, Show}
-use Rattle.kernel_top.specs.Answer.{Ports, IfTold, Asks, Takes, CantTake, due, Shown, ShowEnds, Untouched, NothingPushed, ReadToEnd, OfConfiguration, report_for, limit, IsAnswer, UsageShows, FaultShows, IfRead, LengthShows, SpellingShows, IfRan, Reported, PrefixShows, EndShows, SilenceShows}
+use Rattle.kernel_top.specs.Answer.{Ports, IfTold, Asks, Takes, CantTake, due, Shown, ShowEnds, Untouched, NothingPushed, ReadToEnd, OfConfiguration, report_for, limit, IsAnswer, UsageShows, FaultShows, IfRead, LengthShows, SpellingShows, IfRan, Reported, MachineReported, PrefixShows, EndShows, SilenceShows}
 use Rattle.kernel_top.specs.Reading.{ReadsIn, ReadFails}
 use Rattle.kernel_top.specs.Outcome.{HasRead, HasRun, Ended, Wrote, Broke, Faulty, Stopped, Outcome, RunsAs}
-use Rattle.kernel_top.specs.Configuration.{configuration}
+use Rattle.loader.specs.Configuration.{configuration}
 use Rattle.schedule.specs.Schedule.{events_of}
-use Rattle.kernel_top.specs.Headline.{live_after}
-use Rattle.kernel_top.specs.Printing.{Pushed, Torn, own_section}
+use Rattle.kernel_top.specs.Headline.{machine_report_of, live_after}
+use Rattle.report.specs.Printing.{Pushed, Torn}
 
 -- ---- port 0 read
 
@@ -182,9 +182,19 @@ headline before after Unfinished o = run_shows Sim before after o.ran (λ k. (af
 headline before after _ o = tt
 
 pub ended : (before after : Ports) (s : Status) → Outcome Sim before after s → EndShows (before 0).left s
-ended before after Done o = run_shows Sim before after o.ran (λ k. Ended Sim k false) o.ended
-ended before after Unfinished o = run_shows Sim before after o.ran (λ k. Ended Sim k true) o.ended
+ended before after Done o = run_shows Sim before after o.ran (λ k. live_after (configuration k []) (events_of k) ≡ false) o.ended.live_is
+ended before after Unfinished o = run_shows Sim before after o.ran (λ k. live_after (configuration k []) (events_of k) ≡ true) o.ended.live_is
 ended before after _ o = tt
+
+-- the report is that of the machine of words
+as_machine : (before after : Ports) (live : Bool) → Wrote Sim before after live → MachineReported (before 0) (after 0)
+as_machine before after live o = run_shows Sim before after o.ran (λ k. (after 0).taken ≡ with_bytes (before 0).taken (machine_report_of (configuration k []) (events_of k)))
+    (o.taken ∙ ap (with_bytes (before 0).taken) (sym o.ended.report))
+
+pub report : (before after : Ports) (s : Status) → Outcome Sim before after s → IfRan s (MachineReported (before 0) (after 0))
+report before after Done o = as_machine before after false o
+report before after Unfinished o = as_machine before after true o
+report before after _ o = tt
 
 pub shown : (before after : Ports) (s : Status) → Outcome Show before after s → IfRan s (Shown (before 0) (after 0))
 shown before after Done o = run_shows Show before after o.ran (λ k. (after 0).taken ≡ with_bytes (before 0).taken (due Show k)) o.taken

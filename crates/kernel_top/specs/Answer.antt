@@ -1,8 +1,9 @@
 -- What each answer of the top call means: by its words, by the bytes of its ports, and by the faults of its host.
 -- Where a sentence speaks of bytes left, it holds for a host that tells them.
-use Rattle.std.specs.Prelude.{◌≡◌, ◌<◌, ◌≤◌, ◌⊎◌, ℕ, Bool, true, false, List, [], ◌∷◌, length, codes, Option, Some, None}
+use Rattle.std.specs.Prelude.{◌≡◌, ◌<◌, ◌≤◌, ◌⊎◌, ℕ, Bool, true, false, List, [], ◌∷◌, ◌==◌, length, codes, Option, Some, None}
+use Rattle.std.specs.List.{list_all}
 use Rattle.config_text.specs.declared.config.Config.{Config as ConfigText}
-use Rattle.config_text.specs.Narrow.{IsNarrow}
+use Rattle.config_text.specs.declared.config.Pool.{Pool}
 use Rattle.config_text.specs.Text.{Spells, IsFault}
 use Rattle.config_text.specs.Written.{written}
 use Rattle.host_ports.specs.Ports.{Port, Told, Rose, IsPrefixTaken, with_bytes}
@@ -12,9 +13,9 @@ use Rattle.kernel_top.specs.declared.status.Refusal.TheVariants.{Config, Class, 
 use Rattle.kernel_top.specs.declared.status.PortFault.TheVariants.{Read, Write, Disk}
 use Rattle.kernel_top.specs.declared.command.Command.{Command}
 use Rattle.kernel_top.specs.declared.command.Command.TheVariants.{Sim, Show}
-use Rattle.kernel_top.specs.Configuration.{configuration}
+use Rattle.loader.specs.Configuration.{configuration}
 use Rattle.schedule.specs.Schedule.{events_of}
-use Rattle.kernel_top.specs.Headline.{report_of, live_after}
+use Rattle.kernel_top.specs.Headline.{report_of, machine_report_of, live_after}
 
 -- the ports of a host
 abbrev pub Ports : Type 0
@@ -55,9 +56,13 @@ ReadToEnd before after = IfTold before.left (λ bytes. after.left ≡ Some [])
 abbrev pub OfConfiguration : Told → (ConfigText → Type 0) → Type 0
 OfConfiguration left P = IfTold left (λ bytes. (k : ConfigText) × Spells bytes k × P k)
 
--- the configurations that a command takes: so far a run takes the narrow ones
+-- no class has a volume
+abbrev pub has_no_volume : ConfigText → Bool
+has_no_volume k = list_all (λ (p : Pool). p.volume == 0) k.pools
+
+-- the configurations that a command takes: so far a run takes those without a volume
 abbrev pub Takes : Command → ConfigText → Type 0
-Takes Sim k = IsNarrow k
+Takes Sim k = has_no_volume k ≡ true
 Takes Show k = Unit {0}
 
 -- Why the text of a configuration is refused: its first fault, or line 0 and code 40 where the command doesn't take what it spells.
@@ -135,6 +140,11 @@ IfRan _ P = Unit {0}
 -- port 0 has taken the report of the configuration that its bytes spell
 abbrev pub Reported : Port → Port → Type 0
 Reported before after = OfConfiguration before.left (λ k. after.taken ≡ with_bytes before.taken (report_for k))
+
+-- likewise what the step machine shows of each class after the events of the schedule
+abbrev pub MachineReported : Port → Port → Type 0
+MachineReported before after =
+    OfConfiguration before.left (λ k. after.taken ≡ with_bytes before.taken (machine_report_of (configuration k []) (events_of k)))
 
 -- Port 0 has taken the text of the configuration that its bytes spell.
 abbrev pub Shown : Port → Port → Type 0

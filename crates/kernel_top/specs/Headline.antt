@@ -9,6 +9,7 @@ use Rattle.class_model.specs.Section.{section}
 use Rattle.machine.specs.Machine.{Machine, is_live}
 use Rattle.machine.specs.Opening.{machine, effects}
 use Rattle.machine.specs.Low.{low_events}
+use Rattle.report.specs.Reported.{section as section_of_words}
 
 -- What class c is shown: the section of the machine of whole instructions, given only the configuration at or below c and
 -- the order in which the steps of words that are at or below c took effect.
@@ -18,6 +19,10 @@ low_section k events c = section c (run (low_config c k) (effects (low_config c 
 -- the report: what each class is shown, in the order of the classes
 abbrev pub report_of : Config → List Event → List ℕ
 report_of k events = flat_map (low_section k events) (below (length k.table))
+
+-- what the step machine shows of each class after the events, in the order of the classes
+abbrev pub machine_report_of : Config → List Event → List ℕ
+machine_report_of k events = flat_map (λ c. section_of_words c (machine k events)) (below (length k.table))
 
 -- a process of the class is live
 abbrev pub class_live : Machine → ℕ → Bool

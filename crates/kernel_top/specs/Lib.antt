@@ -1,11 +1,5 @@
-pub mod Alone
-pub mod Thin
 pub mod StatusNumber
-pub mod Configuration
 pub mod Headline
 pub mod Answer
-pub mod RunOf
-pub mod Printing
 pub mod Reading
 pub mod Outcome
-pub mod ThinText

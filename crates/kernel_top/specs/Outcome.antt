@@ -9,11 +9,11 @@ use Rattle.kernel_top.specs.declared.status.Refusal.TheVariants.{Config, TooLong
 use Rattle.kernel_top.specs.declared.status.PortFault.TheVariants.{Read, Write}
 use Rattle.kernel_top.specs.declared.command.Command.{Command}
 use Rattle.kernel_top.specs.declared.command.Command.TheVariants.{Sim, Show}
-use Rattle.kernel_top.specs.Answer.{Ports, IfTold, Untouched, NothingPushed, ReadToEnd, limit, due, Takes, CantTake}
-use Rattle.kernel_top.specs.Configuration.{configuration}
+use Rattle.kernel_top.specs.Answer.{Ports, IfTold, Untouched, NothingPushed, ReadToEnd, limit, due, report_for, Takes, CantTake}
+use Rattle.loader.specs.Configuration.{configuration}
 use Rattle.schedule.specs.Schedule.{events_of}
-use Rattle.kernel_top.specs.Headline.{live_after}
-use Rattle.kernel_top.specs.Printing.{Pushed, Torn}
+use Rattle.kernel_top.specs.Headline.{machine_report_of, live_after}
+use Rattle.report.specs.Printing.{Pushed, Torn}
 
 -- port 0 was read to its end: the text is what it had left
 pub record HasRead (before after : Ports) (text : List ℕ) : Type 0 where
@@ -30,9 +30,14 @@ pub record HasRun (command : Command) (before after : Ports) : Type 0 where
   pub spelled : Spells text config
   pub takes : Takes command config
 
--- How the command ends: a run by whether a process is live after all events.
+-- a run ends by whether a process is live after all events; its report is also what the step machine shows then
+pub record RunEnds (k : ConfigText) (live : Bool) : Type 0 where
+  pub live_is : live_after (configuration k []) (events_of k) ≡ live
+  pub report : machine_report_of (configuration k []) (events_of k) ≡ report_for k
+
+-- how a command ends
 abbrev pub Ended : Command → ConfigText → (live : Bool) → Type 0
-Ended Sim k live = live_after (configuration k []) (events_of k) ≡ live
+Ended Sim k live = RunEnds k live
 Ended Show k live = live ≡ false
 
 -- what was due was written whole

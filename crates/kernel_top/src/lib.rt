@@ -1,15 +1,13 @@
 //! The top call.
 #![tactic(auto)]
 
-mod classes;
 mod command;
 mod input;
-mod line;
-mod print;
+mod output;
+mod running;
 mod status;
 #[cfg(test)]
 mod tests;
-mod thin_run;
 mod top;
 
 pub use command::Command;

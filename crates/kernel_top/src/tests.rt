@@ -29,9 +29,9 @@ const READ_FAULT: Status = Status::HostFault(PortFault::Read { port: 0 });
 
 const WRITE_FAULT: Status = Status::HostFault(PortFault::Write { port: 0 });
 
-/// A valid configuration of two processors.
-const TWO_PROCESSORS: &str =
-    "gemkernel 1\nclasses 1\nclass low 0{}/15{} frames 0 pages 0 volume 0\nprocessors 2\ncycle 0\nrounds 1\nquantum 1\nconsole 0\nend\n";
+/// A valid configuration with a volume.
+const WITH_VOLUME: &str =
+    "gemkernel 1\nclasses 1\nclass low 0{}/15{} frames 0 pages 0 volume 1\nprocessors 2\ncycle 0\nrounds 1\nquantum 1\nconsole 0\nend\n";
 
 /// The first one with comments, blanks and a hexadecimal number.
 const WITH_COMMENTS: &str =
@@ -106,7 +106,7 @@ fn each_answer(rt: HostRuntime) -> Result<(), Fail> {
         ),
         ("", 1000, 0, 0, refused(1, 12), ""),
         ("gemkernel 1\nclasses 0\n", 1000, 0, 0, refused(2, 4), ""),
-        (TWO_PROCESSORS, 1000, 0, 0, refused(0, 40), ""),
+        (WITH_VOLUME, 1000, 0, 0, refused(0, 40), ""),
         (WITH_COMMENTS, 1000, 0, 0, Status::Done, ENDED),
     ];
     for (text, room, pull, push, status, taken) in cases {
@@ -134,7 +134,7 @@ fn shown(rt: HostRuntime) -> Result<(), Fail> {
     let cases = [
         (THREE_STEPS, 1000, Status::Done, THREE_STEPS),
         (WITH_COMMENTS, 1000, Status::Done, THREE_STEPS),
-        (TWO_PROCESSORS, 1000, Status::Done, TWO_PROCESSORS),
+        (WITH_VOLUME, 1000, Status::Done, WITH_VOLUME),
         (THREE_STEPS, 0, WRITE_FAULT, ""),
         ("gemkernel 1\n", 1000, refused(2, 12), ""),
     ];

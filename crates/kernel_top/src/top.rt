@@ -1,44 +1,46 @@
 //! The top call.
 
 ghost use Rattle.std.specs.Prelude.{◌≡◌, map};
-ghost use Rattle.std.specs.List.{list_any};
-ghost use Rattle.kernel_top.specs.Thin.{run_is_live};
 ghost use Rattle.host_ports.specs.Ports.{SameBut};
-ghost use Rattle.kernel_top.specs.Answer.{Asks, IsAnswer, UsageShows, FaultShows, LengthShows, SpellingShows, IfRan, IfRead, Reported, Shown, ShowEnds, PrefixShows, EndShows, SilenceShows, ReadToEnd};
+ghost use Rattle.kernel_top.specs.Answer as spec;
+ghost use Rattle.kernel_top.specs.Answer.{Asks, IsAnswer, Takes, MachineReported, UsageShows, FaultShows, LengthShows, SpellingShows, IfRan, IfRead, Reported, Shown, ShowEnds, PrefixShows, EndShows, SilenceShows, ReadToEnd};
 ghost use Rattle.kernel_top.specs.Outcome.{Outcome, RunsAs};
-ghost use Rattle.config_text.specs.Narrow.{IsNarrow};
 ghost use Rattle.config_text.specs.Valid.{IsValid};
 
-use crate::classes::closed_classes;
 use crate::command::{Command, command_of};
 use crate::input::read_text;
-use crate::print::{print_report, push_text};
+use crate::output::push_text;
+use crate::running::{push_report, run_schedule, some_live};
 use crate::status::{PortFault, Refusal, Status};
-use crate::thin_run::ThinRun;
 use config_print::print_config;
-use config_text::{Config, ConfigError, is_narrow, read_config};
+use config_text::{Config, ConfigError, read_config};
+use effect_laws::section_laws;
 use host_ports::Host;
+use loader::valid_law;
 use std::alloc::Global;
 
-fn some_live(runs: &[ThinRun]) -> bool
-    ensures { result ≡ list_any (λ x. run_is_live x.run) runs.now }
+/// Whether no class has a volume.
+fn has_no_volume(config: &Config) -> bool
+    ensures { result ≡ spec.has_no_volume config.now }
 {
-    runs.iter().any(|run| run.is_live())
+    config.pools.as_slice().iter().all(|pool| pool.volume == 0)
 }
 
 /// Runs a configuration and prints its report.
 fn run_config<H: Host>(alloc: Global, host: &mut H, config: &Config) -> Status
-    requires narrow { IsNarrow config.now }
     requires valid { IsValid config.now }
+    requires taken { Takes Command.Sim config.now }
     ensures { RunsAs Command.Sim config.now (H.ports host.old) (H.ports host.new) result }
 {
-    let Ok(runs) = closed_classes(alloc, config) else {
+    let Ok(machine) = run_schedule(alloc, config) else {
         return Status::NoMemory;
     };
-    match print_report(host, config, runs.as_slice()) {
+    section_laws();
+    valid_law();
+    match push_report(host, &machine) {
         Err(_) => Status::HostFault(PortFault::Write { port: 0 }),
         Ok(()) => {
-            if some_live(runs.as_slice()) {
+            if some_live(&machine) {
                 Status::Unfinished
             } else {
                 Status::Done
@@ -47,12 +49,12 @@ fn run_config<H: Host>(alloc: Global, host: &mut H, config: &Config) -> Status
     }
 }
 
-/// Runs a configuration, where it is of the narrow form that is run so far.
-fn run_narrow<H: Host>(alloc: Global, host: &mut H, config: &Config) -> Status
+/// Runs a configuration, where no class has a volume.
+fn run_without_volumes<H: Host>(alloc: Global, host: &mut H, config: &Config) -> Status
     requires { IsValid config.now }
     ensures { RunsAs Command.Sim config.now (H.ports host.old) (H.ports host.new) result }
 {
-    if is_narrow(config) {
+    if has_no_volume(config) {
         run_config(alloc, host, config)
     } else {
         Status::Refused(Refusal::Config { line: 0, code: 40 })
@@ -94,7 +96,7 @@ fn carry_out_on<H: Host>(alloc: Global, host: &mut H, command: Command, config: 
     ensures { RunsAs command config.now (H.ports host.old) (H.ports host.new) result }
 {
     match command {
-        Command::Sim => run_narrow(alloc, host, config),
+        Command::Sim => run_without_volumes(alloc, host, config),
         Command::Show => show_config(alloc, host, config),
     }
 }
@@ -107,6 +109,9 @@ pub fn sim_main<H: Host>(alloc: Global, words: &[&str], host: &mut H) -> Status
 
     // By `sim`, Done or Unfinished: the report of the configuration, written whole.
     ensures headline { Asks (map (λ w. w.now) words.now) Command.Sim → IfRan result (Reported (H.ports host.old 0) (H.ports host.new 0)) }
+    // It is also what the step machine shows after the schedule's events.
+    ensures report { Asks (map (λ w. w.now) words.now) Command.Sim → IfRan result (MachineReported (H.ports host.old 0) (H.ports host.new 0)) }
+
     ensures ended { Asks (map (λ w. w.now) words.now) Command.Sim → EndShows (H.ports host.old 0).left result }
 
     // By `show`, Done: the text of the configuration, written whole.

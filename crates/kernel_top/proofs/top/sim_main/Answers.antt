@@ -1,4 +1,4 @@
-use Rattle.kernel_top.proofs.Answers.{is_answer, headline, ended, shown, show_ends, fault, long, spelling, prefix, silence, whole_input, other_ports, usage, as_asked}
+use Rattle.kernel_top.proofs.Answers.{is_answer, headline, report, ended, shown, show_ends, fault, long, spelling, prefix, silence, whole_input, other_ports, usage, as_asked}
 use Rattle.kernel_top.proofs.top.sim_main.Goals as goal
 
 pub returns-in-Some-clause-answers : goal.returns-in-Some-clause-answers
@@ -6,6 +6,9 @@ returns-in-Some-clause-answers g c = is_answer _ _ _ _ c.carry_out.ensures
 
 pub returns-in-Some-clause-headline : goal.returns-in-Some-clause-headline
 returns-in-Some-clause-headline g c = λ h. headline _ _ _ (as_asked _ _ _ _ _ _ h c.in-Some.ensures c.carry_out.ensures)
+
+pub returns-in-Some-clause-report : goal.returns-in-Some-clause-report
+returns-in-Some-clause-report g c = λ h. report _ _ _ (as_asked _ _ _ _ _ _ h c.in-Some.ensures c.carry_out.ensures)
 
 pub returns-in-Some-clause-ended : goal.returns-in-Some-clause-ended
 returns-in-Some-clause-ended g c = λ h. ended _ _ _ (as_asked _ _ _ _ _ _ h c.in-Some.ensures c.carry_out.ensures)
