@@ -3,3 +3,4 @@ pub mod SharedLaws
 pub mod Plans
 pub mod Programs
 pub mod Passed
+pub mod Passes

@@ -238,7 +238,7 @@ impl ProcessState {
     }
 
     /// The request of an instruction that asks the state, or the first refusal. None exactly for any other one.
-    fn ask(&self, shared: &Shared, instr: &Instr) -> Option<Result<Request, Rule>>
+    pub(crate) fn ask(&self, shared: &Shared, instr: &Instr) -> Option<Result<Request, Rule>>
         requires { KnowsClasses (classes shared.now) self.now }
         ensures plan { (d : ℕ) → IfSome result (λ r. plan_of shared.now d self.now instr.now ≡ plan_by self.now r) }
         ensures some { asks instr.now ≡ is_some result }

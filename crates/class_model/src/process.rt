@@ -39,7 +39,9 @@ impl Model for Return {
 
 impl Default for Return {
     /// What stands in a place of the stack that isn't used.
-    fn default() -> Return {
+    fn default() -> Return
+        ensures { result ≡ record { script = 0; place = 0; ring = 0 } }
+    {
         Return {
             script: 0,
             place: 0,

@@ -102,13 +102,13 @@ module _ (n : ℕ) where
   CellFits : Cell → Type 0
   CellFits cell = (e : ℕ) (a : Alias) → entry_at cell e ≡ Some a → IsEntry n a
 
-  fits_cell : (part : Part) (u : SegId) (cell : Cell) → PartFits n part → ((e : ℕ) (a : Alias) → entry_at cell e ≡ Some a → IsEntry n a) → PartFits n (with_cell part u cell)
+  pub fits_cell : (part : Part) (u : SegId) (cell : Cell) → PartFits n part → ((e : ℕ) (a : Alias) → entry_at cell e ≡ Some a → IsEntry n a) → PartFits n (with_cell part u cell)
   fits_cell part u cell f k = record {
     entries = λ v e a. elim (same_seg v u) as (λ t. entry_at (if t then cell else part.cell v) e ≡ Some a → IsEntry n a) [ true ↦ k e a | false ↦ f.entries v e a ];
     processes = f.processes;
   }
 
-  fits_entry : (part : Part) (u : SegId) (e : ℕ) (o : Option Alias) → PartFits n part → ((a : Alias) → o ≡ Some a → IsEntry n a) → PartFits n (with_cell part u (with_entry (part.cell u) e o))
+  pub fits_entry : (part : Part) (u : SegId) (e : ℕ) (o : Option Alias) → PartFits n part → ((a : Alias) → o ≡ Some a → IsEntry n a) → PartFits n (with_cell part u (with_entry (part.cell u) e o))
   fits_entry part u e o f k = fits_cell part u (with_entry (part.cell u) e o) f (λ j a h. elim (set_read (part.cell u).entries e j o a h) [
     | inl z ↦ k a z
     | inr z ↦ f.entries u j a z

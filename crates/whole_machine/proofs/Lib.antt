@@ -11,3 +11,5 @@ pub mod Pieces
 pub mod SegmentPieces
 pub mod Openings
 pub mod Filled
+pub mod Recorded
+pub mod Built

@@ -1,6 +1,6 @@
 -- What a change of one part makes of the whole state.
 use Rattle.std.proofs.Common.{ℕ, zero, suc, ◌≡◌, ◌<◌, ◌≤◌, ◌*◌, ltb, ◌+◌, inl, inr, Bool, true, false, List, [], ◌∷◌, ◌++◌, length, get_or, set, refl, sym, ◌∙◌, ap, subst, arith, Option, Some, None, length-set}
-use Rattle.std.specs.Prelude.{if◌then◌else◌, ◌==◌, slice_index_or, replicate, nat_lt, unwrap_or, not, position, is_none}
+use Rattle.std.specs.Prelude.{if◌then◌else◌, ◌==◌, slice_index_or, replicate, nat_lt, unwrap_or, not, position, is_none, IfSome}
 use Rattle.std.proofs.lemmas.Bool.{eqb-true, eqb-false, ltb-true, ltb-false}
 use Rattle.std.proofs.lemmas.List.{get_or-set_same, get_or-set_other, get_or_default, get_or_past}
 use Rattle.lists.specs.Lists.{overwrite, part_of}
@@ -16,7 +16,7 @@ use Rattle.words_layout.specs.declared.segment.SegId.{SegId}
 use Rattle.class_model.specs.Config.{Shared, classes}
 use Rattle.class_model.specs.Process.{Process, ProcName, settled, new_process}
 use Rattle.class_model.specs.Plan.{Plan, Own, Begin, Ask, plan, plan_of}
-use Rattle.class_model.specs.Next.{KnowsClasses, InRange, EndsOrInside, request_of}
+use Rattle.class_model.specs.Next.{KnowsClasses, InRange, EndsOrInside, IsNext, request_of}
 use Rattle.class_model.specs.declared.request.Request.{Request as Asked}
 use Rattle.class_model.specs.declared.request.Request.TheVariants as A
 use Rattle.class_model.specs.declared.request.Next.{Next}
@@ -26,7 +26,7 @@ use Rattle.class_model.specs.Step.{Effect, chosen, deed_of, deed_by, deed, done,
 use Rattle.script_lang.specs.declared.instr.Instr.{Instr}
 use Rattle.whole_machine.specs.Parts.{ListedPart, no_part, part_in, slots_in}
 use Rattle.whole_machine.specs.Fits.{ProcessFits, PartFits, PartsFit, part_of_class}
-use Rattle.whole_machine.specs.Steps.{standing, slot_in, ChangesPart, SameParts, StandsAt, IsDue, IsSomeDue, StepsTo, is_change, change_effect}
+use Rattle.whole_machine.specs.Steps.{standing, slot_in, ChangesPart, SameParts, StandsAt, IsDue, IsNextOf, IsSomeDue, StepsTo, is_change, change_effect, asks_memory, next_takes, takes_memory, step_takes}
 use Rattle.whole_machine.proofs.Banked.{slot_read, no_fifth}
 use Rattle.whole_machine.proofs.Registers.{own_regs}
 use Rattle.whole_machine.proofs.Fitting.{by_put, new_fits, settled_fits, fits_process, fits_begun, EffectFits, effect_fits}
@@ -264,6 +264,35 @@ nobody s parts n le = ap (deed_by (standing s parts) n) (absent s parts n le)
 -- an ended process makes no step
 pub ended : (s : Shared) (parts : List ListedPart) (n : ProcName) (p : Process) → process_at (standing s parts) n ≡ Some p → p.live ≡ false → deed (standing s parts) n ≡ None
 ended s parts n p e live = ap (deed_by (standing s parts) n) e ∙ ap (λ (t : Bool). if t then Some (deed_of (standing s parts) n p (plan s n.class p)) else None) live
+
+-- whether memory may be needed for a step is read off what is next
+request_takes : (p : Process) (r : Asked) → takes_memory (request_of p r) ≡ asks_memory r
+request_takes p (A.MakeKnown k e mode) = refl
+request_takes p (A.Create k e class b size) = refl
+request_takes p (A.Delete k e) = refl
+request_takes p (A.SwapIn k) = refl
+request_takes p (A.SwapOut k) = refl
+request_takes p (A.Fetch k offset count pad) = refl
+request_takes p (A.Update k offset count pad) = refl
+request_takes p (A.Read k wanted t) = refl
+request_takes p (A.Advance k) = refl
+request_takes p (A.Ticket k) = refl
+request_takes p (A.Out value) = refl
+
+plan_takes : (a : State) (n : ProcName) (p : Process) (y : Plan) (next : Next) → IsNext n.class p y next → step_takes (Some (deed_of a n p y)) ≡ next_takes next
+plan_takes a n p (Own after) N.Own h = refl
+plan_takes a n p (Begin child) N.Own h = absurd (cc)
+plan_takes a n p (Ask request) N.Own h = absurd (cc)
+plan_takes a n p y (N.Begin script start) h = ap (λ (z : Plan). step_takes (Some (deed_of a n p z))) h
+plan_takes a n p y (N.Ask r) h = ap (λ (z : Plan). step_takes (Some (deed_of a n p z))) h ∙ request_takes p r
+
+pub due_takes : (s : Shared) (parts : List ListedPart) (n : ProcName) (p : Process) (o : Option Next) → process_at (standing s parts) n ≡ Some p → IfSome o (IsNextOf s n.class p) →
+    IfSome o (λ next. step_takes (deed (standing s parts) n) ≡ next_takes next)
+due_takes s parts n p None e h = tt
+due_takes s parts n p (Some next) e h =
+    ap (λ (o : Option Process). step_takes (deed_by (standing s parts) n o)) e ∙
+    ap (λ (t : Bool). step_takes (if t then Some (deed_of (standing s parts) n p (plan s n.class p)) else None)) h.live ∙
+    plan_takes (standing s parts) n p (plan s n.class p) next h.planned
 
 -- the state after a change of one part
 pub puts_state : (s : Shared) (old new : List ListedPart) (class : ℕ) (X : Part) → ChangesPart old new class X → standing s new ≡ with_part (standing s old) class X

@@ -7,3 +7,4 @@ pub mod Steps
 pub mod Slots
 pub mod Texts
 pub mod Readers
+pub mod Building

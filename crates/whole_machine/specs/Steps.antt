@@ -1,21 +1,25 @@
 -- What is said of a step on the lists.
 use Rattle.std.specs.Prelude.{ℕ, ◌≡◌, ◌<◌, Bool, true, false, List, Option, Some, None, slice_index_or, length}
+use Rattle.std.specs.Option.{option_map_or}
 use Rattle.lists.specs.Lists.{put, part_of}
-use Rattle.policy.specs.Outcome.{Refused}
+use Rattle.policy.specs.Outcome.{Outcome, Refused}
 use Rattle.policy.specs.Private.{brackets_of}
 use Rattle.policy.specs.declared.rule.Rule.TheVariants.{Gone}
 use Rattle.class_model.specs.Config.{Shared, classes, instr_at}
 use Rattle.class_model.specs.Process.{Process, ProcName}
-use Rattle.class_model.specs.Plan.{plan}
+use Rattle.class_model.specs.Plan.{Request, MakeKnown, Read, plan}
 use Rattle.class_model.specs.Next.{IsNext, NextInRange, CanStep, EndsOrInside}
 use Rattle.class_model.specs.declared.request.Request.{Request as Asked}
 use Rattle.class_model.specs.declared.request.Request.TheVariants as A
 use Rattle.class_model.specs.declared.request.Next.{Next}
+use Rattle.class_model.specs.declared.request.Next.TheVariants as N
 use Rattle.class_model.specs.State.{State, Part}
-use Rattle.class_model.specs.Step.{Effect, create_effect, delete_effect, swap_in_effect, swap_out_effect, update_effect, advance_effect, ticket_effect, out_effect, step}
+use Rattle.class_model.specs.Step.{Deed, Effect, create_effect, delete_effect, swap_in_effect, swap_out_effect, update_effect, advance_effect, ticket_effect, out_effect, step}
 use Rattle.class_model.specs.State.{entry_at}
-use Rattle.whole_machine.specs.Parts.{ListedPart, state_of, slots_in, no_part}
+use Rattle.words_layout.specs.declared.segment.SegId.{SegId}
+use Rattle.whole_machine.specs.Parts.{ListedPart, is_cell, state_of, slots_in, no_part}
 use Rattle.whole_machine.specs.Fits.{part_of_class, PartFits}
+use Rattle.whole_machine.specs.Shows.{ListsAt, KeepsPlaces}
 
 -- the state that these parts stand for
 abbrev pub standing : Shared → List ListedPart → State
@@ -34,6 +38,14 @@ pub record ChangesPart (old new : List ListedPart) (class : ℕ) (part : Part) :
 pub record SameParts (old new : List ListedPart) : Type 0 where
   pub as_many : length new ≡ length old
   pub parts : (c : ℕ) → part_of_class new c ≡ part_of_class old c
+
+-- the cell of a class and an identity is listed first at this place
+abbrev pub CellAt : List ListedPart → ℕ → SegId → ℕ → Type 0
+CellAt parts class u at = ListsAt (is_cell u) (slice_index_or parts class no_part).cells at
+
+-- where a cell was listed it is listed
+abbrev pub KeepsCells : List ListedPart → List ListedPart → Type 0
+KeepsCells old new = (c : ℕ) → KeepsPlaces (slice_index_or old c no_part).cells (slice_index_or new c no_part).cells
 
 -- the process is at a slot of the part of a class
 pub record StandsAt (parts : List ListedPart) (n : ProcName) (p : Process) : Type 0 where
@@ -75,6 +87,28 @@ is_change (A.MakeKnown k entry mode) = false
 is_change (A.Fetch k offset count pad) = false
 is_change (A.Read k wanted tally) = false
 is_change _ = true
+
+-- memory may be needed for the request: it changes a cell, a count or a console, or copies words
+abbrev pub asks_memory : Asked → Bool
+asks_memory (A.MakeKnown k entry mode) = false
+asks_memory (A.Read k wanted tally) = false
+asks_memory _ = true
+
+-- likewise for what is next
+abbrev pub next_takes : Next → Bool
+next_takes (N.Ask request) = asks_memory request
+next_takes _ = false
+
+-- likewise for what was asked
+abbrev pub takes_memory : Request → Bool
+takes_memory (MakeKnown k entry mode) = false
+takes_memory (Read k wanted tally) = false
+takes_memory _ = true
+
+-- memory may be needed for a step: there is one, and it asks this
+abbrev pub step_takes : Option Deed → Bool
+step_takes deed =
+    option_map_or (λ (x : Deed). option_map_or (λ (r : Request × Outcome). takes_memory r.0) x.asked false) deed false
 
 -- what such a request of a process with this pad does
 abbrev pub change_effect : Shared → ℕ → Part → List ℕ → Asked → Effect

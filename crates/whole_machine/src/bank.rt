@@ -110,7 +110,7 @@ impl PartState {
     }
 
     /// The least slot of a processor that never held a process.
-    fn free_slot(&self, processor: u8) -> Option<u8>
+    pub(crate) fn free_slot(&self, processor: u8) -> Option<u8>
         requires { processor < 4 }
         ensures free { result ≡ position (λ q. is_none q) (slots_in self.now.bank processor) }
         ensures within { IfSome result (λ slot. slot < 4) }

@@ -1,11 +1,12 @@
 //! How a state is built.
 
-ghost use Rattle.std.specs.Prelude.{◌≡◌, ◌<◌, ◌≤◌, [], IfOk, OnErr, All, Some, None, map, length, replicate, slice_set};
+ghost use Rattle.std.specs.Prelude.{◌≡◌, ◌<◌, ◌≤◌, [], IfOk, IsOk, All, Some, None, map, length, replicate, slice_set};
 ghost use Rattle.class_model.specs.Config.{Config, shared_of, classes};
 ghost use Rattle.class_model.specs.Shared.{IsShared};
-ghost use Rattle.class_model.specs.Process.{new_process};
 ghost use Rattle.class_model.specs.Run.{opening};
-ghost use Rattle.class_model.specs.State.{process_at, with_part, with_process};
+ghost use Rattle.class_model.specs.State.{process_at};
+ghost use Rattle.class_model.specs.Valid.{IsConfig};
+ghost use Rattle.whole_machine.specs.Building.{with_new, bare, built};
 ghost use Rattle.whole_machine.specs.Parts.{state_of, no_part};
 ghost use Rattle.whole_machine.specs.Fits.{PartsFit};
 
@@ -40,6 +41,13 @@ fn first_parts(alloc: Global, count: u8) -> Result<Vec<PartState>, AllocError>
     first.take_root();
     Ok(parts)
 }
+
+/// Records, put one after the other into the opening of a valid configuration without records and processes, and then
+/// its processes, each in the next slot of its processor and class, make its opening.
+#[tactic(auto, using(crate::proofs::Built::building))]
+pub fn building_law()
+    ensures { (k : Config) → IsConfig k → built k (opening (bare k)) ≡ opening k }
+{}
 
 impl PartState {
     /// The first serial is the root's.
@@ -89,16 +97,15 @@ impl ModelState {
         ModelState::opening(alloc, shared)
     }
 
-    /// A process begins at the begin of a script.
+    /// A process begins at the begin of a script. The answer is always Ok.
     pub fn put_process(&mut self, name: &ProcName, script: u8, ring: Ring) -> Result<(), AllocError>
         requires class { name.now.class < classes self.old.shared }
         requires processor { name.now.processor < 4 }
         requires slot { name.now.slot < 4 }
         requires absent { process_at (state_of self.old) name.now ≡ None }
         ensures shared { self.new.shared ≡ self.old.shared }
-        ensures ok { IfOk result (λ _. state_of self.new ≡ with_part (state_of self.old) name.now.class
-            (with_process ((state_of self.old).part name.now.class) name.now.processor name.now.slot (new_process name.now.class script ring 0))) }
-        ensures err { OnErr result (state_of self.new ≡ state_of self.old) }
+        ensures ok { IfOk result (λ _. state_of self.new ≡ with_new (state_of self.old) name.now script ring) }
+        ensures done { IsOk result }
     {
         let process = ProcessState::new(name.class, script, ring, 0);
         let part = &mut self.parts[name.class as usize];

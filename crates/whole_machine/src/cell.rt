@@ -6,6 +6,7 @@ ghost use Rattle.lists.specs.Lists.{overwrite, part_of};
 ghost use Rattle.class_model.specs.State.{Cell, Stored, In, Deleted, blank_cell, entry_at, has_entry, is_in, is_deleted, live_words};
 ghost use Rattle.class_model.specs.Step.{with_entry};
 ghost use Rattle.class_model.specs.Section.{home_name, never, shown_words, is_touched};
+ghost use Rattle.whole_machine.specs.Building.{storing};
 
 use class_model::write_over;
 use std::alloc::{AllocError, Global};
@@ -182,6 +183,16 @@ impl CellState {
         ensures { self.new ≡ with_entry self.old number entry }
     {
         self.entries[number as usize] = entry;
+    }
+
+    /// Has these words stored, if there are any.
+    pub(crate) fn store(&mut self, kept: Option<Vec<u64>>)
+        ensures { self.new ≡ storing (option_map (λ v. v.items) kept) self.old }
+    {
+        if let Some(words) = kept {
+            self.stored = Some(words);
+            self.home = Whereabouts::Stored;
+        }
     }
 
     /// Is deleted; its live and stored words are lost.

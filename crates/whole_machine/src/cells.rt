@@ -1,11 +1,13 @@
 //! The list of the cells of a class.
 
 ghost use Rattle.std.specs.Prelude.{◌≡◌, ◌+◌, ◌<◌, true, ℕ, IfOk, OnErr, None, Some, length, position, replicate, unwrap_or};
+ghost use Rattle.std.specs.Option.{option_map};
 ghost use Rattle.lists.specs.Lists.{overwrite};
 ghost use Rattle.words_layout.specs.Segments.{same_seg, put_seg};
 ghost use Rattle.words_layout.specs.declared.segment.SegId.{SegId};
 ghost use Rattle.class_model.specs.State.{Cell, Stored, In, Deleted, is_in, live_words};
 ghost use Rattle.class_model.specs.Step.{with_entry};
+ghost use Rattle.whole_machine.specs.Building.{storing};
 ghost use Rattle.whole_machine.specs.Parts.{Listed, is_cell, cell_in};
 ghost use Rattle.whole_machine.specs.Shows.{ListsAt, SameCells, KeepsPlaces, ChangesCell};
 
@@ -78,6 +80,15 @@ pub(crate) fn set_entry(cells: &mut Vec<ListedCell>, at: usize, number: u8, entr
 {
     let item = &mut cells[at];
     item.cell.set_entry(number, entry);
+}
+
+/// Stores words in the cell at a place, if there are any.
+pub(crate) fn store(cells: &mut Vec<ListedCell>, at: usize, kept: Option<Vec<u64>>)
+    requires { at < length cells.old.items }
+    ensures { ChangesCell cells.old.items cells.new.items at (storing (option_map (λ v. v.items) kept)) }
+{
+    let item = &mut cells[at];
+    item.cell.store(kept);
 }
 
 /// Deletes the cell at a place.

@@ -15,12 +15,14 @@ mod part;
 mod pools;
 mod processes;
 mod readers;
+mod records;
 mod section;
 mod segments;
 mod state;
 mod step;
 mod text;
 
+pub use building::building_law;
 pub use name::ProcName;
 pub use section::model_section;
 pub use state::{ModelState, model_step};

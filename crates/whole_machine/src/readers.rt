@@ -3,7 +3,9 @@
 ghost use Rattle.std.specs.Prelude.{◌≡◌, ◌<◌};
 ghost use Rattle.std.specs.Option.{option_map};
 ghost use Rattle.class_model.specs.Config.{Shared as SharedValue, classes};
+ghost use Rattle.class_model.specs.Passing.{passes};
 ghost use Rattle.class_model.specs.State.{process_at, cell_at, entry_at};
+ghost use Rattle.whole_machine.specs.Fits.{PartsFit};
 ghost use Rattle.whole_machine.specs.Parts.{state_of};
 ghost use Rattle.whole_machine.specs.Steps.{standing};
 ghost use Rattle.whole_machine.specs.Readers.{next_instr, place_of, register_of, known_of};
@@ -12,7 +14,7 @@ use crate::looks::part_at;
 use crate::name::ProcName;
 use crate::part::PartState;
 use crate::state::ModelState;
-use class_model::ProcessState;
+use class_model::{ProcessState, Shared};
 use policy::Known;
 use script_lang::{Instr, Reg};
 use words_layout::{Alias, SegId};
@@ -25,6 +27,24 @@ fn process_in<'a>(parts: &'a [PartState], name: &ProcName) -> Option<&'a Process
         return None;
     }
     part_at(parts, name.class).process(name.processor, name.slot)
+}
+
+/// Whether the named process is live and its next instruction passes its private tests.
+fn passes_in(shared: &Shared, parts: &[PartState], name: &ProcName) -> bool
+    requires { PartsFit shared.now parts.now }
+    ensures { result ≡ passes (standing shared.now parts.now) name.now }
+{
+    if name.class as usize >= parts.len() {
+        return false;
+    }
+    let part = part_at(parts, name.class);
+    match part.process(name.processor, name.slot) {
+        None => false,
+        Some(process) => {
+            let free = part.free_slot(name.processor).is_some();
+            process.passes(shared, name.class, free)
+        }
+    }
 }
 
 impl ModelState {
@@ -48,6 +68,14 @@ impl ModelState {
                 Some(self.shared.instr_at(process.script(), process.place()))
             }
         }
+    }
+
+    /// Whether it is live and its next instruction passes its private tests. Finding a slot is one of those of a `spawn`,
+    /// and room on the console none of those of an `out`.
+    pub fn passes(&self, name: &ProcName) -> bool
+        ensures { result ≡ passes (state_of self.now) name.now }
+    {
+        passes_in(&self.shared, self.parts.as_slice(), name)
     }
 
     /// The place of its next instruction. None exactly where it is absent.

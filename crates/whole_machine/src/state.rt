@@ -1,8 +1,9 @@
 //! States of the machine of whole instructions.
 
-ghost use Rattle.std.specs.Prelude.{◌≡◌, IfOk, OnErr, is_some};
+ghost use Rattle.std.specs.Prelude.{◌≡◌, true, IfOk, OnErr, is_some};
 ghost use Rattle.class_model.specs.Step.{step, deed};
 ghost use Rattle.whole_machine.specs.Parts.{state_of};
+ghost use Rattle.whole_machine.specs.Steps.{step_takes};
 
 use crate::name::ProcName;
 use crate::part::PartState;
@@ -31,8 +32,9 @@ impl Model for ModelState {
     ghost invariant = { λ m. PartsFit m.shared m.parts.items };
 }
 
-/// One step of the named process. False comes exactly where it is absent or ended, and changes nothing. NoMemory, which
-/// comes also where a number would pass the greatest u64, changes nothing.
+/// One step of the named process. False comes exactly where it is absent or ended, and changes nothing. NoMemory comes only
+/// where its next instruction asks for a change of the state beyond the process, or for words; also where a number would
+/// pass the greatest u64. It changes nothing.
 pub fn model_step(
     alloc: Global,
     state: &mut ModelState,
@@ -41,6 +43,7 @@ pub fn model_step(
     ensures step { IfOk result (λ _. state_of state.new ≡ step (state_of state.old) name.now) }
     ensures made { IfOk result (λ made. made ≡ is_some (deed (state_of state.old) name.now)) }
     ensures err { OnErr result (state_of state.new ≡ state_of state.old) }
+    ensures takes { OnErr result (step_takes (deed (state_of state.old) name.now) ≡ true) }
     ensures shared { state.new.shared ≡ state.old.shared }
 {
     match due(&state.shared, state.parts.as_slice(), name) {

@@ -10,7 +10,7 @@ ghost use Rattle.class_model.specs.Step.{deed};
 ghost use Rattle.class_model.specs.declared.request.Next.TheVariants as N;
 ghost use Rattle.class_model.specs.declared.request.Request.TheVariants as A;
 ghost use Rattle.whole_machine.specs.Fits.{PartsFit, part_of_class};
-ghost use Rattle.whole_machine.specs.Steps.{standing, slot_in, ChangesPart, SameParts, StandsAt, IsDue, IsSomeDue, IsNextOf, IsSettled, StepsTo, is_change};
+ghost use Rattle.whole_machine.specs.Steps.{standing, slot_in, ChangesPart, SameParts, StandsAt, IsDue, IsSomeDue, IsNextOf, IsSettled, StepsTo, is_change, asks_memory, next_takes, step_takes};
 
 use crate::looks::{look, make_known, part_at, words_of};
 use crate::name::ProcName;
@@ -24,6 +24,7 @@ pub(crate) fn due(shared: &Shared, parts: &[PartState], name: &ProcName) -> Opti
     requires { PartsFit shared.now parts.now }
     ensures due { IfSome result (λ next. IsSomeDue shared.now parts.now name.now next) }
     ensures none { result ≡ None → deed (standing shared.now parts.now) name.now ≡ None }
+    ensures takes { IfSome result (λ next. step_takes (deed (standing shared.now parts.now) name.now) ≡ next_takes next) }
 {
     shared.shared_law();
     if name.class as usize >= parts.len() {
@@ -189,6 +190,7 @@ fn ask(
     requires due { IsSomeDue shared.now parts.old.items name.now (N.Ask request.now) }
     ensures ok { IfOk result (λ _. StepsTo shared.now parts.old.items parts.new.items name.now) }
     ensures err { OnErr result (SameParts parts.old.items parts.new.items) }
+    ensures takes { OnErr result (asks_memory request.now ≡ true) }
 {
     match *request {
         Request::MakeKnown { known, entry, mode } => {
@@ -225,6 +227,7 @@ pub(crate) fn perform(
     requires due { IsSomeDue shared.now parts.old.items name.now next.now }
     ensures ok { IfOk result (λ _. StepsTo shared.now parts.old.items parts.new.items name.now) }
     ensures err { OnErr result (SameParts parts.old.items parts.new.items) }
+    ensures takes { OnErr result (next_takes next.now ≡ true) }
 {
     match *next {
         Next::Own => {
