@@ -2,4 +2,6 @@
 #![tactic(auto)]
 
 #[cfg(test)]
+mod loaded;
+#[cfg(test)]
 mod tests;

@@ -1,264 +1,277 @@
 -- What an answer shows, clause by clause.
-use Rattle.std.proofs.Common.{◌≡◌, ◌≢◌, ℕ, zero, suc, ◌+◌, ◌-◌, ◌<◌, ◌≤◌, min, Bool, true, false, List, [], ◌∷◌, length, take, drop, map, refl, sym, ap, subst, ◌∙◌, inl, inr, Option, Some, None, arith}
-use Rattle.std.proofs.lemmas.List.{drop_all, take_all, length-take-le}
+use Rattle.std.proofs.Common.{◌≡◌, ℕ, ◌<◌, inl, inr, List, [], ◌∷◌, length, refl, sym, ap, subst, ◌∙◌}
 use Rattle.std.specs.Prelude.{codes}
-use Rattle.std.specs.List.{flat_map, list_any}
-use Rattle.lists.specs.Lists.{below}
-use Rattle.host_ports.specs.Ports.{Port, Told, Rose, SameBut, PullKeeps, PushKeeps, IsPrefixTaken, FillsWhole, with_bytes}
+use Rattle.host_ports.specs.Ports.{Port, Told, Rose, SameBut, IsPrefixTaken, with_bytes}
 use Rattle.config_text.specs.declared.config.Config.{Config as ConfigText}
 use Rattle.config_text.specs.Text.{Spells, IsFault}
 use Rattle.config_text.specs.Written.{written}
 use Rattle.kernel_top.specs.declared.status.Status.{Status}
 use Rattle.kernel_top.specs.declared.status.Status.TheVariants.{Done, Refused, Usage, HostFault, Unfinished, NoMemory}
-use Rattle.kernel_top.specs.declared.status.Refusal.TheVariants.{Config, Class, Volume, Load, TooLong, Release, Store}
-use Rattle.kernel_top.specs.declared.status.PortFault.TheVariants.{Read, Write, Disk}
+use Rattle.kernel_top.specs.declared.status.Refusal.TheVariants.{Config, Volume, TooLong}
+use Rattle.kernel_top.specs.declared.status.PortFault.TheVariants.{Read, Write}
 use Rattle.kernel_top.specs.declared.command.Command.{Command}
 use Rattle.kernel_top.specs.declared.command.Command.TheVariants.{Sim, Show}
-use Rattle.kernel_top.specs.Answer.{Ports, IfTold, Asks, Takes, CantTake, due, Shown, ShowEnds, Untouched, NothingPushed, ReadToEnd, OfConfiguration, report_for, limit, IsAnswer, UsageShows, FaultShows, IfRead, LengthShows, SpellingShows, IfRan, Reported, MachineReported, PrefixShows, EndShows, SilenceShows}
-use Rattle.kernel_top.specs.Reading.{ReadsIn, ReadFails}
-use Rattle.kernel_top.specs.Outcome.{HasRead, HasRun, Ended, Wrote, Broke, Faulty, Stopped, Outcome, RunsAs}
-use Rattle.loader.specs.Configuration.{configuration}
-use Rattle.schedule.specs.Schedule.{events_of}
-use Rattle.kernel_top.specs.Headline.{machine_report_of, live_after}
-use Rattle.report.specs.Printing.{Pushed, Torn}
+use Rattle.kernel_top.specs.Input.{Ports, IfTold, NothingPushed, IsReadWhole, OfConfiguration, limit}
+use Rattle.kernel_top.specs.Reading.{ReadsIn, ReadFails, VolumeFails}
+use Rattle.kernel_top.specs.Outcome.{ShowsAs, CarriesOn, IsNoConfig, Outcome}
+use Rattle.kernel_top.specs.Answer.{Asks, UsageShows, CauseShows, RunCause, ShowCause, IfRan, Reported, MachineReported, EndShows, VolumesShow, Shown, PrefixShows, SilenceShows, OthersShow}
+use Rattle.kernel_top.proofs.Reading.{silent_pull, silent_same, told_of, whole_as}
+use Rattle.kernel_top.proofs.Failing.{fail_others, fail_cause, fail_silence}
+use Rattle.kernel_top.proofs.Ran.{ran_headline, ran_report, ran_ended, ran_volumes, ran_cause, ran_prefix, ran_silence, ran_others}
 
--- ---- port 0 read
+-- ---- answers that come before a run
 
-reads_told : (left after : Told) (n : ℕ) (buf : List ℕ) → FillsWhole left after n buf → length buf ≡ limit + 1 → n ≤ limit → IfTold left (λ bytes. take n buf ≡ bytes)
-reads_told None after n buf f len h = tt
-reads_told (Some bytes) after n buf f len h = let few : length bytes ≤ n = (let e = f.0 in omega arith) in f.1 ∙ take_all n bytes few
+-- the answer comes before anything is run
+abbrev IsStopped : Status → Type 0
+IsStopped NoMemory = Unit {0}
+IsStopped (HostFault (Read port)) = Unit {0}
+IsStopped (Refused (TooLong port)) = Unit {0}
+IsStopped (Refused (Config line code)) = Unit {0}
+IsStopped (Refused (Volume port offset code)) = Unit {0}
+IsStopped _ = ⊥
 
-reads_end : (left after : Told) (n : ℕ) (buf : List ℕ) → FillsWhole left after n buf → length buf ≡ limit + 1 → n ≤ limit → IfTold left (λ bytes. after ≡ Some [])
-reads_end None after n buf f len h = tt
-reads_end (Some bytes) after n buf f len h = let few : length bytes ≤ n = (let e = f.0 in omega arith) in f.2 ∙ ap Some (drop_all n bytes few)
+reading_stops : (port : ℕ) (before after : Ports) (s : Status) → ReadFails port before after s → IsStopped s
+reading_stops port before after NoMemory f = tt
+reading_stops port before after (HostFault (Read p)) f = tt
+reading_stops port before after (Refused (TooLong p)) f = tt
+reading_stops port before after _ f = absurd f
 
-reads_short : (left after : Told) (n : ℕ) (buf : List ℕ) → FillsWhole left after n buf → n ≤ length buf
-reads_short None after n buf f = f.0
-reads_short (Some bytes) after n buf f = let e = f.0 in omega arith
+spelling_stops : (before after : Ports) (s : Status) → IsNoConfig before after s → IsStopped s
+spelling_stops before after NoMemory f = tt
+spelling_stops before after (Refused (Config line code)) f = tt
+spelling_stops before after _ f = absurd f
 
-pub reads_in : (before after : Ports) (n : ℕ) (buf text : List ℕ) → FillsWhole (before 0).left (after 0).left n buf → length buf ≡ limit + 1 → n ≤ limit → PullKeeps 0 before after → text ≡ take n buf
-    → ReadsIn before after text
-reads_in before after n buf text f len h keeps e = subst (ReadsIn before after) (sym e) (record {
-  told = reads_told (before 0).left (after 0).left n buf f len h;
-  short = let k = length-take-le n buf (reads_short (before 0).left (after 0).left n buf f) in omega arith;
-  ended = reads_end (before 0).left (after 0).left n buf f len h;
-  keeps = keeps;
-})
+volume_stops : (k : ConfigText) (n : ℕ) (now after : Ports) (s : Status) → VolumeFails k.table n now after s → IsStopped s
+volume_stops k n now after NoMemory f = tt
+volume_stops k n now after (HostFault (Read p)) f = tt
+volume_stops k n now after (Refused (TooLong p)) f = tt
+volume_stops k n now after (Refused (Volume p offset code)) f = tt
+volume_stops k n now after _ f = absurd f
 
--- ---- the outcome
+stopped_ran : (P : Type 0) (s : Status) → IsStopped s → IfRan s P
+stopped_ran P Done h = absurd h
+stopped_ran P Unfinished h = absurd h
+stopped_ran P _ h = tt
 
-taken_same : (before after : Ports) → PullKeeps 0 before after → (p : ℕ) → (after p).taken ≡ (before p).taken
-taken_same before after keeps zero = keeps.taken
-taken_same before after keeps (suc p) = ap (λ (x : Port). x.taken) (keeps.others (suc p) (λ e. cc))
+stopped_ended : (before : Ports) (s : Status) → IsStopped s → EndShows before s
+stopped_ended before Done h = absurd h
+stopped_ended before Unfinished h = absurd h
+stopped_ended before _ h = tt
 
-pushes_same : (before after : Ports) → PullKeeps 0 before after → (p : ℕ) → (after p).pushes ≡ (before p).pushes
-pushes_same before after keeps zero = keeps.pushes
-pushes_same before after keeps (suc p) = ap (λ (x : Port). x.pushes) (keeps.others (suc p) (λ e. cc))
+stopped_volumes : (before after : Ports) (s : Status) → IsStopped s → VolumesShow before after s
+stopped_volumes before after Done h = absurd h
+stopped_volumes before after Unfinished h = absurd h
+stopped_volumes before after _ h = tt
 
-silent : (before after : Ports) → PullKeeps 0 before after → NothingPushed before after
-silent before after keeps = record { taken = taken_same before after keeps; pushes = pushes_same before after keeps }
+stopped_prefix : (command : Command) (before after : Ports) (s : Status) → IsStopped s → PrefixShows command before after s
+stopped_prefix Sim before after (HostFault (Write port)) h = absurd h
+stopped_prefix Show before after (HostFault (Write port)) h = absurd h
+stopped_prefix Sim before after _ h = tt
+stopped_prefix Show before after _ h = tt
 
--- no text
-pub not_read : (command : Command) (before after : Ports) (s : Status) → ReadFails before after s → Outcome command before after s
-not_read command before after NoMemory f = record { others = λ p n. f p; silent = record { taken = λ p. ap (λ (x : Port). x.taken) (f p); pushes = λ p. ap (λ (x : Port). x.pushes) (f p) }; shows = tt }
-not_read command before after (HostFault (Read port)) f = (f.0, record { others = f.1.others; silent = silent before after f.1; shows = f.2 })
-not_read command before after (Refused (TooLong port)) f = (f.0, record { others = f.1.others; silent = silent before after f.1; shows = f.2 })
-not_read command before after _ f = absurd f
+-- ---- port 0
 
-pub no_memory : (before after : Ports) (text : List ℕ) → ReadsIn before after text → Stopped before after (Unit {0})
-no_memory before after text r = record { others = r.keeps.others; silent = silent before after r.keeps; shows = tt }
+reading_cause : (command : Command) (before after : Ports) (s : Status) → ReadFails 0 before after s → CauseShows command before after s
+reading_cause Sim before after NoMemory f = tt
+reading_cause Show before after NoMemory f = tt
+reading_cause Sim before after (HostFault (Read p)) f =
+    (inl f.0, subst (λ q. Rose (before q).pulls (after q).pulls) (sym f.0) f.2)
+reading_cause Show before after (HostFault (Read p)) f = (f.0, f.2)
+reading_cause Sim before after (Refused (TooLong p)) f =
+    (inl f.0, subst (λ q. IfTold (before q).left (λ bytes. limit q < length bytes)) (sym f.0) f.2)
+reading_cause Show before after (Refused (TooLong p)) f = (f.0, f.2)
+reading_cause command before after _ f = absurd f
 
-has_read : (before after : Ports) (text : List ℕ) → ReadsIn before after text → HasRead before after text
-has_read before after text r = record { told = r.told; short = r.short; ended = r.ended; others = r.keeps.others }
+spelling_cause : (command : Command) (before after : Ports) (s : Status) → IsNoConfig before after s → CauseShows command before after s
+spelling_cause Sim before after NoMemory f = tt
+spelling_cause Show before after NoMemory f = tt
+spelling_cause Sim before after (Refused (Config line code)) f = (f.1.whole, told_of (λ bytes. IsFault bytes line code) (before 0).left f.0 f.1.told f.2)
+spelling_cause Show before after (Refused (Config line code)) f = (f.1.whole, told_of (λ bytes. IsFault bytes line code) (before 0).left f.0 f.1.told f.2)
+spelling_cause command before after _ f = absurd f
 
-pub faulty : (command : Command) (before after : Ports) (text : List ℕ) (line code : ℕ) → ReadsIn before after text → IsFault text line code → Faulty command before after line code
-unfolding has_read
-faulty command before after text line code r fault = record {
-  text = text;
-  read = has_read before after text r;
-  silent = silent before after r.keeps;
-  why = inl fault;
-}
+untouched_silent : (before after : Ports) → ((p : ℕ) → after p ≡ before p) → NothingPushed before after
+untouched_silent before after same = record { taken = λ p. ap (λ (x : Port). x.taken) (same p); pushes = λ p. ap (λ (x : Port). x.pushes) (same p) }
 
-end_same : (left middle after : Told) → after ≡ middle → IfTold left (λ bytes. middle ≡ Some []) → IfTold left (λ bytes. after ≡ Some [])
-end_same None middle after e h = tt
-end_same (Some bytes) middle after e h = e ∙ h
+reading_silence : (before after : Ports) (s : Status) → ReadFails 0 before after s → SilenceShows before after s
+reading_silence before after NoMemory f = untouched_silent before after f
+reading_silence before after (HostFault (Read p)) f = silent_pull 0 before after f.1
+reading_silence before after (Refused (TooLong p)) f = silent_pull 0 before after f.1
+reading_silence before after _ f = absurd f
 
-has_run : (command : Command) (before middle after : Ports) (text : List ℕ) (k : ConfigText) → ReadsIn before middle text → PushKeeps 0 middle after → Spells text k → Takes command k →
-    HasRun command before after
-has_run command before middle after text k r keeps s t = record {
-  text = text;
-  read = record {
-    told = r.told;
-    short = r.short;
-    ended = end_same (before 0).left (middle 0).left (after 0).left keeps.left r.ended;
-    others = λ p n. keeps.others p n ∙ r.keeps.others p n;
-  };
-  config = k;
-  spelled = s;
-  takes = t;
-}
+spelling_silence : (before after : Ports) (s : Status) → IsNoConfig before after s → SilenceShows before after s
+spelling_silence before after NoMemory f = silent_pull 0 before after f.1.keeps
+spelling_silence before after (Refused (Config line code)) f = silent_pull 0 before after f.1.keeps
+spelling_silence before after _ f = absurd f
 
-pub wrote : (command : Command) (before middle after : Ports) (text : List ℕ) (k : ConfigText) (live : Bool) → ReadsIn before middle text → Spells text k → Pushed middle after (due command k)
-    → Ended command k live → Takes command k → Wrote command before after live
-unfolding has_run
-wrote command before middle after text k live r s p l t = record {
-  ran = has_run command before middle after text k r p.keeps s t;
-  taken = p.taken ∙ ap (λ (x : Told). with_bytes x (due command k)) r.keeps.taken;
-  ended = l;
-}
+reading_others : (before after : Ports) (s : Status) → ReadFails 0 before after s → SameBut 0 before after
+reading_others before after NoMemory f = λ p some. f p
+reading_others before after (HostFault (Read q)) f = f.1.others
+reading_others before after (Refused (TooLong q)) f = f.1.others
+reading_others before after _ f = absurd f
 
-pub broke : (command : Command) (before middle after : Ports) (text : List ℕ) (k : ConfigText) → ReadsIn before middle text → Spells text k → Torn middle after (due command k) → Takes command k →
-    Broke command before after
-unfolding has_run
-broke command before middle after text k r s p t = record {
-  ran = has_run command before middle after text k r p.keeps s t;
-  taken = subst (λ (x : Told). IsPrefixTaken x (after 0).taken (due command k)) r.keeps.taken p.taken;
-  rose = subst (λ (n : ℕ). Rose n (after 0).pushes) r.keeps.pushes p.rose;
-}
+spelling_others : (before after : Ports) (s : Status) → IsNoConfig before after s → SameBut 0 before after
+spelling_others before after NoMemory f = f.1.keeps.others
+spelling_others before after (Refused (Config line code)) f = f.1.keeps.others
+spelling_others before after _ f = absurd f
 
-untouched_in : (before middle after : Ports) (text : List ℕ) → ReadsIn before middle text → Untouched middle after → Stopped before after (Unit {0})
-untouched_in before middle after text r u = let n = no_memory before middle text r in record {
-  others = λ p h. u p ∙ n.others p h;
-  silent = record { taken = λ p. ap (λ (x : Port). x.taken) (u p) ∙ n.silent.taken p; pushes = λ p. ap (λ (x : Port). x.pushes) (u p) ∙ n.silent.pushes p };
-  shows = tt;
-}
+same_but : (command : Command) (before after : Ports) → SameBut 0 before after → OthersShow command before after
+same_but Sim before after f = λ p some. inl (f p some)
+same_but Show before after f = f
 
-not_taken : (command : Command) (before middle after : Ports) (text : List ℕ) (k : ConfigText) (line code : ℕ) → ReadsIn before middle text → Spells text k → Untouched middle after →
-    line ≡ 0 → code ≡ 40 → ¬ Takes command k → Faulty command before after line code
-unfolding untouched_in
-not_taken command before middle after text k line code r s u l c none = record {
-  text = text;
-  read = record {
-    told = r.told;
-    short = r.short;
-    ended = end_same (before 0).left (middle 0).left (after 0).left (ap (λ (x : Port). x.left) (u 0)) r.ended;
-    others = λ p n. u p ∙ r.keeps.others p n;
-  };
-  silent = (untouched_in before middle after text r u).silent;
-  why = inr (k, s, none, l, c);
-}
+-- ---- a run
 
--- the command is carried out on the configuration that was read
-pub ran : (command : Command) (before middle after : Ports) (text : List ℕ) (k : ConfigText) (s : Status) → ReadsIn before middle text → Spells text k → RunsAs command k middle after s →
-    Outcome command before after s
-ran command before middle after text k Done r s o = wrote command before middle after text k false r s o.0 o.1 o.2
-ran command before middle after text k Unfinished r s o = wrote command before middle after text k true r s o.0 o.1 o.2
-ran command before middle after text k (HostFault (Write port)) r s o = (o.0, broke command before middle after text k r s o.1 o.2)
-ran command before middle after text k (Refused (Config line code)) r s o = not_taken command before middle after text k line code r s o.0 o.1 o.2 o.3
-ran command before middle after text k NoMemory r s o = untouched_in before middle after text r o
-ran command before middle after text k _ r s o = absurd o
+module _ (before after : Ports) (s : Status) where
+  pub headline : Outcome Sim before after s → IfRan s (Reported before after)
+  headline (inl f) = stopped_ran (Reported before after) s (reading_stops 0 before after s f)
+  headline (inr (inl f)) = stopped_ran (Reported before after) s (spelling_stops before after s f)
+  headline (inr (inr on)) = elim on.runs [
+    | inl f ↦ stopped_ran (Reported before after) s (volume_stops on.config f.0 f.1.middle after s f.1.fails)
+    | inr r ↦ ran_headline before on.middle r.middle after on.text on.config r.volumes on.read on.spelled r.read s r.runs
+  ]
 
--- ---- the clauses
+  pub report : Outcome Sim before after s → IfRan s (MachineReported before after)
+  report (inl f) = stopped_ran (MachineReported before after) s (reading_stops 0 before after s f)
+  report (inr (inl f)) = stopped_ran (MachineReported before after) s (spelling_stops before after s f)
+  report (inr (inr on)) = elim on.runs [
+    | inl f ↦ stopped_ran (MachineReported before after) s (volume_stops on.config f.0 f.1.middle after s f.1.fails)
+    | inr r ↦ ran_report before on.middle r.middle after on.text on.config r.volumes on.read on.spelled r.read s r.runs
+  ]
 
-of_run : (left : Told) (text : List ℕ) → IfTold left (λ bytes. text ≡ bytes) → (k : ConfigText) → Spells text k → (P : ConfigText → Type 0) → P k → OfConfiguration left P
-of_run None text e k s P p = tt
-of_run (Some bytes) text e k s P p = (k, subst (λ (t : List ℕ). Spells t k) e s, p)
+  pub ended : Outcome Sim before after s → EndShows before s
+  ended (inl f) = stopped_ended before s (reading_stops 0 before after s f)
+  ended (inr (inl f)) = stopped_ended before s (spelling_stops before after s f)
+  ended (inr (inr on)) = elim on.runs [
+    | inl f ↦ stopped_ended before s (volume_stops on.config f.0 f.1.middle after s f.1.fails)
+    | inr r ↦ ran_ended before on.middle r.middle after on.text on.config r.volumes on.read on.spelled r.read s r.runs
+  ]
 
-run_shows : (command : Command) (before after : Ports) (r : HasRun command before after) → (P : ConfigText → Type 0) → P r.config → OfConfiguration (before 0).left P
-run_shows command before after r P p = of_run (before 0).left r.text r.read.told r.config r.spelled P p
+  pub volumes : Outcome Sim before after s → VolumesShow before after s
+  volumes (inl f) = stopped_volumes before after s (reading_stops 0 before after s f)
+  volumes (inr (inl f)) = stopped_volumes before after s (spelling_stops before after s f)
+  volumes (inr (inr on)) = elim on.runs [
+    | inl f ↦ stopped_volumes before after s (volume_stops on.config f.0 f.1.middle after s f.1.fails)
+    | inr r ↦ ran_volumes before on.middle r.middle after on.text on.config r.volumes on.read on.spelled r.read s r.runs
+  ]
 
-fits_told : (left : Told) (text : List ℕ) → IfTold left (λ bytes. text ≡ bytes) → length text ≤ limit → IfTold left (λ bytes. length bytes ≤ limit)
-fits_told None text e h = tt
-fits_told (Some bytes) text e h = subst (λ (t : List ℕ). length t ≤ limit) e h
+  run_cause : CarriesOn Sim before after s → RunCause before after s
+  run_cause on = elim on.runs [
+    | inl f ↦ fail_cause before on.middle after on.text on.config on.read on.spelled f.0 s f.1
+    | inr r ↦ ran_cause before on.middle r.middle after on.text on.config r.volumes on.read on.spelled r.read s r.runs
+  ]
 
-why_told : (command : Command) (line code : ℕ) (left : Told) (text : List ℕ) → IfTold left (λ bytes. text ≡ bytes) → CantTake command text line code → IfTold left (λ bytes. CantTake command bytes line code)
-why_told command line code None text e h = tt
-why_told command line code (Some bytes) text e h = subst (λ (t : List ℕ). CantTake command t line code) e h
+  run_prefix : CarriesOn Sim before after s → PrefixShows Sim before after s
+  run_prefix on = elim on.runs [
+    | inl f ↦ stopped_prefix Sim before after s (volume_stops on.config f.0 f.1.middle after s f.1.fails)
+    | inr r ↦ ran_prefix before on.middle r.middle after on.text on.config r.volumes on.read on.spelled r.read s r.runs
+  ]
 
-pub is_answer : (command : Command) (before after : Ports) (s : Status) → Outcome command before after s → IsAnswer s
-is_answer command before after Done o = tt
-is_answer command before after Unfinished o = tt
-is_answer command before after NoMemory o = tt
-is_answer command before after (HostFault (Write port)) o = o.0
-is_answer command before after (HostFault (Read port)) o = o.0
-is_answer command before after (Refused (TooLong port)) o = o.0
-is_answer command before after (Refused (Config line code)) o = tt
-is_answer command before after _ o = absurd o
+  run_silence : CarriesOn Sim before after s → SilenceShows before after s
+  run_silence on = elim on.runs [
+    | inl f ↦ fail_silence before on.middle after on.text on.config on.read on.spelled f.0 s f.1
+    | inr r ↦ ran_silence before on.middle r.middle after on.text on.config r.volumes on.read on.spelled r.read s r.runs
+  ]
 
-pub headline : (before after : Ports) (s : Status) → Outcome Sim before after s → IfRan s (Reported (before 0) (after 0))
-headline before after Done o = run_shows Sim before after o.ran (λ k. (after 0).taken ≡ with_bytes (before 0).taken (due Sim k)) o.taken
-headline before after Unfinished o = run_shows Sim before after o.ran (λ k. (after 0).taken ≡ with_bytes (before 0).taken (due Sim k)) o.taken
-headline before after _ o = tt
+  run_others : CarriesOn Sim before after s → OthersShow Sim before after
+  run_others on = elim on.runs [
+    | inl f ↦ fail_others before on.middle after on.text on.config on.read on.spelled s f.0 f.1
+    | inr r ↦ ran_others before on.middle r.middle after on.text on.config r.volumes on.read on.spelled r.read s r.runs
+  ]
 
-pub ended : (before after : Ports) (s : Status) → Outcome Sim before after s → EndShows (before 0).left s
-ended before after Done o = run_shows Sim before after o.ran (λ k. live_after (configuration k []) (events_of k) ≡ false) o.ended.live_is
-ended before after Unfinished o = run_shows Sim before after o.ran (λ k. live_after (configuration k []) (events_of k) ≡ true) o.ended.live_is
-ended before after _ o = tt
+-- ---- showing
 
--- the report is that of the machine of words
-as_machine : (before after : Ports) (live : Bool) → Wrote Sim before after live → MachineReported (before 0) (after 0)
-as_machine before after live o = run_shows Sim before after o.ran (λ k. (after 0).taken ≡ with_bytes (before 0).taken (machine_report_of (configuration k []) (events_of k)))
-    (o.taken ∙ ap (with_bytes (before 0).taken) (sym o.ended.report))
+module _ (before middle after : Ports) (text : List ℕ) (k : ConfigText) (zeroth : ReadsIn 0 before middle text) (spelled : Spells text k) where
+  of_config : (P : ConfigText → Type 0) → P k → OfConfiguration (before 0).left P
+  of_config P p = told_of (λ bytes. (c : ConfigText) × Spells bytes c × P c) (before 0).left text zeroth.told (k, spelled, p)
 
-pub report : (before after : Ports) (s : Status) → Outcome Sim before after s → IfRan s (MachineReported (before 0) (after 0))
-report before after Done o = as_machine before after false o
-report before after Unfinished o = as_machine before after true o
-report before after _ o = tt
+  whole : (after 0).left ≡ (middle 0).left → IsReadWhole 0 before after
+  whole same = whole_as 0 before middle before after refl same zeroth.whole
+
+  show_shown : (s : Status) → ShowsAs k middle after s → IfRan s (Shown (before 0) (after 0))
+  show_shown Done o = of_config (λ c. (after 0).taken ≡ with_bytes (before 0).taken (written c)) (o.taken ∙ ap (λ (t : Told). with_bytes t (written k)) zeroth.keeps.taken)
+  show_shown Unfinished o = absurd o
+  show_shown _ o = tt
+
+  show_cause : (s : Status) → ShowsAs k middle after s → ShowCause before after s
+  show_cause Done o = (whole o.keeps.left, of_config (λ c. Unit {0}) tt)
+  show_cause (HostFault (Write port)) o =
+      (o.0, subst (λ m. Rose m (after 0).pushes) zeroth.keeps.pushes o.1.rose, whole o.1.keeps.left, of_config (λ c. Unit {0}) tt)
+  show_cause NoMemory o = tt
+  show_cause _ o = absurd o
+
+  show_prefix : (s : Status) → ShowsAs k middle after s → PrefixShows Show before after s
+  show_prefix (HostFault (Write port)) o =
+      of_config (λ c. IsPrefixTaken (before 0).taken (after 0).taken (written c)) (subst (λ (t : Told). IsPrefixTaken t (after 0).taken (written k)) zeroth.keeps.taken o.1.taken)
+  show_prefix _ o = tt
+
+  show_silence : (s : Status) → ShowsAs k middle after s → SilenceShows before after s
+  show_silence Done o = tt
+  show_silence (HostFault (Write port)) o = tt
+  show_silence NoMemory o = silent_same before middle after (silent_pull 0 before middle zeroth.keeps) o
+  show_silence _ o = absurd o
+
+  show_others : (s : Status) → ShowsAs k middle after s → SameBut 0 before after
+  show_others Done o = λ p some. o.keeps.others p some ∙ zeroth.keeps.others p some
+  show_others (HostFault (Write port)) o = λ p some. o.1.keeps.others p some ∙ zeroth.keeps.others p some
+  show_others NoMemory o = λ p some. o p ∙ zeroth.keeps.others p some
+  show_others _ o = absurd o
 
 pub shown : (before after : Ports) (s : Status) → Outcome Show before after s → IfRan s (Shown (before 0) (after 0))
-shown before after Done o = run_shows Show before after o.ran (λ k. (after 0).taken ≡ with_bytes (before 0).taken (due Show k)) o.taken
-shown before after Unfinished o = run_shows Show before after o.ran (λ k. (after 0).taken ≡ with_bytes (before 0).taken (due Show k)) o.taken
-shown before after _ o = tt
+shown before after s (inl f) = stopped_ran (Shown (before 0) (after 0)) s (reading_stops 0 before after s f)
+shown before after s (inr (inl f)) = stopped_ran (Shown (before 0) (after 0)) s (spelling_stops before after s f)
+shown before after s (inr (inr on)) = show_shown before on.middle after on.text on.config on.read on.spelled s on.runs
 
-pub show_ends : (before after : Ports) (s : Status) → Outcome Show before after s → ShowEnds s
-show_ends before after Unfinished o = let e = o.ended in cc
-show_ends before after _ o = tt
+-- ---- both commands
+
+on_cause : (command : Command) (before after : Ports) (s : Status) → CarriesOn command before after s → CauseShows command before after s
+on_cause Sim before after s on = run_cause before after s on
+on_cause Show before after s on = show_cause before on.middle after on.text on.config on.read on.spelled s on.runs
+
+on_prefix : (command : Command) (before after : Ports) (s : Status) → CarriesOn command before after s → PrefixShows command before after s
+on_prefix Sim before after s on = run_prefix before after s on
+on_prefix Show before after s on = show_prefix before on.middle after on.text on.config on.read on.spelled s on.runs
+
+on_silence : (command : Command) (before after : Ports) (s : Status) → CarriesOn command before after s → SilenceShows before after s
+on_silence Sim before after s on = run_silence before after s on
+on_silence Show before after s on = show_silence before on.middle after on.text on.config on.read on.spelled s on.runs
+
+on_others : (command : Command) (before after : Ports) (s : Status) → CarriesOn command before after s → OthersShow command before after
+on_others Sim before after s on = run_others before after s on
+on_others Show before after s on = show_others before on.middle after on.text on.config on.read on.spelled s on.runs
+
+module _ (command : Command) (before after : Ports) (s : Status) where
+  pub cause : Outcome command before after s → CauseShows command before after s
+  cause (inl f) = reading_cause command before after s f
+  cause (inr (inl f)) = spelling_cause command before after s f
+  cause (inr (inr on)) = on_cause command before after s on
+
+  pub prefix : Outcome command before after s → PrefixShows command before after s
+  prefix (inl f) = stopped_prefix command before after s (reading_stops 0 before after s f)
+  prefix (inr (inl f)) = stopped_prefix command before after s (spelling_stops before after s f)
+  prefix (inr (inr on)) = on_prefix command before after s on
+
+  pub silence : Outcome command before after s → SilenceShows before after s
+  silence (inl f) = reading_silence before after s f
+  silence (inr (inl f)) = spelling_silence before after s f
+  silence (inr (inr on)) = on_silence command before after s on
+
+  pub others : Outcome command before after s → OthersShow command before after
+  others (inl f) = same_but command before after (reading_others before after s f)
+  others (inr (inl f)) = same_but command before after (spelling_others before after s f)
+  others (inr (inr on)) = on_others command before after s on
+
+-- ---- the words
+
+-- no answer of a command is one to words that ask for none
+no_usage : (command : Command) (kind : ℕ) (before after : Ports) → Outcome command before after (Usage kind) → ⊥
+no_usage command kind before after o = by command (cause command before after (Usage kind) o)
+  where
+    by : (command : Command) → CauseShows command before after (Usage kind) → ⊥
+    by Sim h = h
+    by Show h = h
 
 pub usage : (command : Command) (before after : Ports) (s : Status) (words : List (List ℕ)) → Asks words command → Outcome command before after s → UsageShows words before after s
-usage command before after (Usage kind) words h o = absurd o
+usage command before after (Usage kind) words h o = absurd (no_usage command kind before after o)
 usage command before after _ words h o = (command, h)
-
-pub fault : (command : Command) (before after : Ports) (s : Status) → Outcome command before after s → FaultShows (before 0) (after 0) s
-fault command before after (HostFault (Read port)) o = o.1.shows
-fault command before after (HostFault (Write port)) o = o.1.rose
-fault command before after _ o = tt
-
-pub long : (command : Command) (before after : Ports) (s : Status) → Outcome command before after s → LengthShows (before 0).left s
-long command before after (Refused (TooLong port)) o = o.1.shows
-long command before after (Refused (Config line code)) o = fits_told (before 0).left o.text o.read.told o.read.short
-long command before after (HostFault (Write port)) o = fits_told (before 0).left o.1.ran.text o.1.ran.read.told o.1.ran.read.short
-long command before after Done o = fits_told (before 0).left o.ran.text o.ran.read.told o.ran.read.short
-long command before after Unfinished o = fits_told (before 0).left o.ran.text o.ran.read.told o.ran.read.short
-long command before after _ o = tt
-
-pub spelling : (command : Command) (before after : Ports) (s : Status) → Outcome command before after s → SpellingShows command (before 0).left s
-spelling command before after (Refused (Config line code)) o = why_told command line code (before 0).left o.text o.read.told o.why
-spelling command before after (HostFault (Write port)) o = run_shows command before after o.1.ran (Takes command) o.1.ran.takes
-spelling command before after Done o = run_shows command before after o.ran (Takes command) o.ran.takes
-spelling command before after Unfinished o = run_shows command before after o.ran (Takes command) o.ran.takes
-spelling command before after _ o = tt
-
-pub prefix : (command : Command) (before after : Ports) (s : Status) → Outcome command before after s → PrefixShows command (before 0) (after 0) s
-prefix command before after (HostFault (Write port)) o = run_shows command before after o.1.ran (λ k. IsPrefixTaken (before 0).taken (after 0).taken (due command k)) o.1.taken
-prefix command before after _ o = tt
-
-pub silence : (command : Command) (before after : Ports) (s : Status) → Outcome command before after s → SilenceShows before after s
-silence command before after Done o = tt
-silence command before after Unfinished o = tt
-silence command before after (HostFault (Write port)) o = tt
-silence command before after (HostFault (Read port)) o = o.1.silent
-silence command before after (Refused (TooLong port)) o = o.1.silent
-silence command before after (Refused (Config line code)) o = o.silent
-silence command before after NoMemory o = o.silent
-silence command before after _ o = absurd o
-
-pub whole_input : (command : Command) (before after : Ports) (s : Status) → Outcome command before after s → IfRead s (ReadToEnd (before 0) (after 0))
-whole_input command before after (Refused (Config line code)) o = o.read.ended
-whole_input command before after (HostFault (Write port)) o = o.1.ran.read.ended
-whole_input command before after Done o = o.ran.read.ended
-whole_input command before after Unfinished o = o.ran.read.ended
-whole_input command before after _ o = tt
-
-pub other_ports : (command : Command) (before after : Ports) (s : Status) → Outcome command before after s → SameBut 0 before after
-other_ports command before after Done o = o.ran.read.others
-other_ports command before after Unfinished o = o.ran.read.others
-other_ports command before after (HostFault (Write port)) o = o.1.ran.read.others
-other_ports command before after (HostFault (Read port)) o = o.1.others
-other_ports command before after (Refused (TooLong port)) o = o.1.others
-other_ports command before after (Refused (Config line code)) o = o.read.others
-other_ports command before after NoMemory o = o.others
-other_ports command before after _ o = absurd o
 
 pub spelled_as : (s t : List ℕ) (k : ConfigText) → s ≡ t → Spells s k → Spells t k
 spelled_as s t k e h = subst (λ (x : List ℕ). Spells x k) e h

@@ -8,7 +8,7 @@ use Rattle.std.specs.Option.{option_map}
 use Rattle.lists.specs.Lists.{below, numbers_from}
 use Rattle.class_model.specs.Config.{Shared}
 use Rattle.process.specs.Standing.{Standing, running_of}
-use Rattle.machine.specs.Machine.{Machine, is_live}
+use Rattle.machine.specs.Machine.{is_live}
 use Rattle.machine.specs.Processing.{Processing, holds_live}
 use Rattle.machine.specs.Banks.{vp_in, vp_at, State, machine_of}
 use Rattle.machine.specs.Steps.{HasEnded}

@@ -1,4 +1,4 @@
--- What the report of a run shows to each class.
+-- What a run shows to each class, and what it leaves in each volume.
 use Rattle.std.specs.Prelude.{ℕ, Bool, List, length}
 use Rattle.std.specs.List.{flat_map, list_any}
 use Rattle.lists.specs.Lists.{below}
@@ -10,6 +10,8 @@ use Rattle.machine.specs.Machine.{Machine, is_live}
 use Rattle.machine.specs.Opening.{machine, effects}
 use Rattle.machine.specs.Low.{low_events}
 use Rattle.report.specs.Reported.{section as section_of_words}
+use Rattle.volume_image.specs.Written.{written}
+use Rattle.loader.specs.After.{records_after, tree_of_words}
 
 -- What class c is shown: the section of the machine of whole instructions, given only the configuration at or below c and
 -- the order in which the steps of words that are at or below c took effect.
@@ -23,6 +25,14 @@ report_of k events = flat_map (low_section k events) (below (length k.table))
 -- what the step machine shows of each class after the events, in the order of the classes
 abbrev pub machine_report_of : Config → List Event → List ℕ
 machine_report_of k events = flat_map (λ c. section_of_words c (machine k events)) (below (length k.table))
+
+-- the image of volume v that is told by a machine's words
+abbrev pub image_in : Config → Machine → ℕ → List ℕ
+image_in k m v = written k.table (records_after k v (tree_of_words m))
+
+-- the image of volume v after the events
+abbrev pub image_of : Config → List Event → ℕ → List ℕ
+image_of k events v = image_in k (machine k events) v
 
 -- a process of the class is live
 abbrev pub class_live : Machine → ℕ → Bool

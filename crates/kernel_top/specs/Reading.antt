@@ -1,22 +1,77 @@
--- What reading port 0 does.
-use Rattle.std.specs.Prelude.{◌≡◌, ◌<◌, ◌≤◌, ℕ, List, [], length, Some}
-use Rattle.host_ports.specs.Ports.{Port, Rose, PullKeeps}
+-- What reading the ports does, one after the other. For private calls.
+use Rattle.std.specs.Prelude.{◌≡◌, ◌<◌, ◌≤◌, ℕ, Bool, List, ◌==◌, length, Contains}
+use Rattle.std.specs.List.{AllByRecursion, list_any}
+use Rattle.labels.specs.Label.{ClassEntry}
+use Rattle.host_ports.specs.Ports.{Rose, PullKeeps}
+use Rattle.config_text.specs.declared.config.Config.{Config as ConfigText}
+use Rattle.config_text.specs.declared.config.Pool.{Pool}
+use Rattle.class_model.specs.Config.{SegRecord}
+use Rattle.volume_image.specs.Valid.{IsVolume}
+use Rattle.volume_image.specs.Volumes.{Spells as SpellsVolume, IsFault as IsVolumeFault}
+use Rattle.loader.specs.Records.{Volumes, named_by, numbers_of}
 use Rattle.kernel_top.specs.declared.status.Status.{Status}
-use Rattle.kernel_top.specs.declared.status.Status.TheVariants.{Done, Refused, Usage, HostFault, Unfinished, NoMemory}
-use Rattle.kernel_top.specs.declared.status.Refusal.TheVariants.{TooLong}
+use Rattle.kernel_top.specs.declared.status.Status.TheVariants.{Refused, HostFault, NoMemory}
+use Rattle.kernel_top.specs.declared.status.Refusal.TheVariants.{TooLong, Volume}
 use Rattle.kernel_top.specs.declared.status.PortFault.TheVariants.{Read}
-use Rattle.kernel_top.specs.Answer.{Ports, IfTold, Untouched, ReadToEnd, limit}
+use Rattle.kernel_top.specs.Input.{Ports, IfTold, Untouched, NothingPushed, IsReadWhole, IsAccepted, AreNamedBelow, limit}
 
--- the text is all that port 0 had left, and it isn't longer than the limit
-pub record ReadsIn (before after : Ports) (text : List ℕ) : Type 0 where
-  pub told : IfTold (before 0).left (λ bytes. text ≡ bytes)
-  pub short : length text ≤ limit
-  pub ended : ReadToEnd (before 0) (after 0)
-  pub keeps : PullKeeps 0 before after
+-- the bytes are all that the port had left, and they are within its limit
+pub record ReadsIn (port : ℕ) (before after : Ports) (bytes : List ℕ) : Type 0 where
+  pub told : IfTold (before port).left (λ left. bytes ≡ left)
+  pub short : length bytes ≤ limit port
+  pub whole : IsReadWhole port before after
+  pub keeps : PullKeeps port before after
 
--- why there is no text
-abbrev pub ReadFails : Ports → Ports → Status → Type 0
-ReadFails before after NoMemory = Untouched before after
-ReadFails before after (HostFault (Read port)) = (port ≡ 0) × PullKeeps 0 before after × Rose (before 0).pulls (after 0).pulls
-ReadFails before after (Refused (TooLong port)) = (port ≡ 0) × PullKeeps 0 before after × IfTold (before 0).left (λ bytes. limit < length bytes)
-ReadFails before after _ = ⊥
+-- why there are no bytes
+abbrev pub ReadFails : ℕ → Ports → Ports → Status → Type 0
+ReadFails port before after NoMemory = Untouched before after
+ReadFails port before after (HostFault (Read p)) = (p ≡ port) × PullKeeps port before after × Rose (before port).pulls (after port).pulls
+ReadFails port before after (Refused (TooLong p)) = (p ≡ port) × PullKeeps port before after × IfTold (before port).left (λ bytes. limit port < length bytes)
+ReadFails port before after _ = ⊥
+
+-- the port was read, and its bytes spell this volume
+pub record VolumeReads (table : List ClassEntry) (port : ℕ) (before after : Ports) (v : List SegRecord) : Type 0 where
+  pub bytes : List ℕ
+  pub reads : ReadsIn port before after bytes
+  pub spelled : SpellsVolume table bytes v
+  pub valid : IsVolume table v
+
+-- the port was read, and its bytes have this first fault
+pub record IsNoVolume (table : List ClassEntry) (port : ℕ) (before after : Ports) (offset code : ℕ) : Type 0 where
+  pub bytes : List ℕ
+  pub reads : ReadsIn port before after bytes
+  pub fault : IsVolumeFault table bytes offset code
+
+-- why there is no volume
+abbrev pub VolumeFails : List ClassEntry → ℕ → Ports → Ports → Status → Type 0
+VolumeFails table port before after NoMemory = PullKeeps port before after
+VolumeFails table port before after (HostFault (Read p)) = (p ≡ port) × PullKeeps port before after × Rose (before port).pulls (after port).pulls
+VolumeFails table port before after (Refused (TooLong p)) = (p ≡ port) × PullKeeps port before after × IfTold (before port).left (λ bytes. limit port < length bytes)
+VolumeFails table port before after (Refused (Volume p offset code)) = (p ≡ port) × IsNoVolume table port before after offset code
+VolumeFails table port before after _ = ⊥
+
+-- a pool names the volume
+abbrev pub is_named : ConfigText → ℕ → Bool
+is_named k n = list_any (λ (p : Pool). p.volume == n) k.pools
+
+-- the volumes that the configuration names, below n, were read from their ports
+pub record VolumesRead (n : ℕ) (k : ConfigText) (before after : Ports) (vs : Volumes) : Type 0 where
+  pub volumes : AllByRecursion (IsAccepted k.table before after) vs
+  pub valid : AllByRecursion (λ (v : ℕ × List SegRecord). IsVolume k.table v.1) vs
+  pub numbers : AreNamedBelow n k (numbers_of vs)
+  pub others : (p : ℕ) → (Contains (numbers_of vs) p → ⊥) → after p ≡ before p
+  pub silent : NothingPushed before after
+
+-- The volume of port n, which the configuration names, wasn't read: those below it were, and then this came.
+pub record FailsAt (k : ConfigText) (before after : Ports) (n : ℕ) (why : Ports → Type 0) : Type 0 where
+  pub some : 1 ≤ n
+  pub most : n < 5
+  pub named : Contains (named_by k) n
+  pub middle : Ports
+  pub volumes : Volumes
+  pub read : VolumesRead n k before middle volumes
+  pub fails : why middle
+
+-- why there are no volumes
+abbrev pub VolumesFail : ConfigText → Ports → Ports → Status → Type 0
+VolumesFail k before after status = (n : ℕ) × FailsAt k before after n (λ middle. VolumeFails k.table n middle after status)

@@ -9,6 +9,7 @@ mod status;
 #[cfg(test)]
 mod tests;
 mod top;
+mod volumes;
 
 pub use command::Command;
 pub use status::{PortFault, Refusal, Status};

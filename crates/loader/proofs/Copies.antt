@@ -1,22 +1,29 @@
--- What is copied from a valid configuration is what no step changes of it, and in order.
-use Rattle.std.proofs.Common.{ℕ, List, [], map, ◌≡◌, sym, subst, Option, Some}
+-- What is copied from a valid configuration is what no step changes of what is seen of it, and in order.
+use Rattle.std.proofs.Common.{ℕ, List, [], map, ◌≡◌, sym, ap, subst, ◌∙◌, Option}
 use Rattle.labels.specs.Label.{ClassEntry}
 use Rattle.config_text.specs.declared.config.Config.{Config as ConfigText}
 use Rattle.config_text.specs.Valid.{IsValid}
-use Rattle.class_model.specs.Config.{Shared, Pool, Script, Gate, shared_of}
+use Rattle.class_model.specs.Config.{Config, Shared, Pool, Script, Gate, shared_of}
 use Rattle.class_model.specs.Shared.{IsShared}
 use Rattle.flow_laws.proofs.Sound.{is_shared}
-use Rattle.loader.specs.Configuration.{configuration, pool_of_text, script_of_text, gate_of_text}
+use Rattle.loader.specs.Configuration.{configuration, pool_of_text}
+use Rattle.loader.specs.Seen.{seen, sees, script_seen, gate_seen}
 use Rattle.loader.proofs.Validity.{is_config}
+use Rattle.loader.proofs.Seen.{part_by, seen_is, seen_valid, scripts_are, gates_are}
 
-module _ (k : ConfigText) (table : List ClassEntry) (pools : List Pool) (console : ℕ) (scripts : List (Option Script)) (gates : List (Option Gate)) where
+module _ (k : ConfigText) (view : Option ℕ) (table : List ClassEntry) (pools : List Pool) (console : ℕ) (scripts : List (Option Script)) (gates : List (Option Gate)) where
   abbrev copied : Shared
   copied = record { table = table; pools = pools; console = console; scripts = scripts; gates = gates }
 
-  pub copies_are : table ≡ k.table → pools ≡ map pool_of_text k.pools → console ≡ k.console → scripts ≡ map (λ x. Some (script_of_text x)) k.scripts → gates ≡ map (λ g. Some (gate_of_text g)) k.gates →
-      copied ≡ shared_of (configuration k [])
-  copies_are a b c d e = λ j. record { table = a j; pools = b j; console = c j; scripts = d j; gates = e j }
+  abbrev here : Config
+  here = part_by (sees k.table view) (configuration k [])
 
-  pub copies_fit : IsValid k → table ≡ k.table → pools ≡ map pool_of_text k.pools → console ≡ k.console → scripts ≡ map (λ x. Some (script_of_text x)) k.scripts → gates ≡ map (λ g. Some (gate_of_text g)) k.gates →
-      IsShared copied
-  copies_fit valid a b c d e = subst IsShared (sym (copies_are a b c d e)) (is_shared (configuration k []) (is_config k valid))
+  module _ (a : table ≡ k.table) (b : pools ≡ map pool_of_text k.pools) (c : console ≡ k.console) (d : scripts ≡ map (script_seen k.table view) k.scripts) (e : gates ≡ map (gate_seen k.table view) k.gates) where
+    copies : copied ≡ shared_of here
+    copies = λ j. record { table = a j; pools = b j; console = c j; scripts = (d ∙ scripts_are k view []) j; gates = (e ∙ gates_are k view []) j }
+
+    pub copies_are : copied ≡ shared_of (seen (configuration k []) view)
+    copies_are = copies ∙ ap shared_of (sym (seen_is (configuration k []) view))
+
+    pub copies_fit : IsValid k → IsShared copied
+    copies_fit valid = subst IsShared (sym copies) (is_shared here (seen_valid (configuration k []) view (is_config k valid)))

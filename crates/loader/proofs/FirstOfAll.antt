@@ -41,7 +41,7 @@ class_in_volume f table u [] i ok lt = absurd (omega (arith, lt))
 class_in_volume f table u (r ∷ rs) zero ok lt = ok.0.class
 class_in_volume f table u (r ∷ rs) (suc i) ok lt = class_in_volume f table r.seg rs i ok.1 (omega (arith, lt))
 
-volume_valid : (table : List ClassEntry) (vs : Volumes) (v : ℕ) → AllByRecursion (λ (w : ℕ × List SegRecord). IsVolume table w.1) vs → v < length vs → IsVolume table (volume_at vs v).1
+pub volume_valid : (table : List ClassEntry) (vs : Volumes) (v : ℕ) → AllByRecursion (λ (w : ℕ × List SegRecord). IsVolume table w.1) vs → v < length vs → IsVolume table (volume_at vs v).1
 volume_valid table [] v all lt = absurd (omega (arith, lt))
 volume_valid table (w ∷ vs) zero all lt = all.0
 volume_valid table (w ∷ vs) (suc v) all lt = volume_valid table vs v all.1 (omega (arith, lt))

@@ -8,7 +8,7 @@ numbers_more : (s n : ℕ) → numbers_from s (suc n) ≡ numbers_from s n ++ (s
 numbers_more s zero = let e : s ≡ s + zero = omega arith in ap (λ (m : ℕ). m ∷ []) e
 numbers_more s (suc n) = let e : s + 1 + n ≡ s + suc n = omega arith in ap (λ (t : List ℕ). s ∷ t) (numbers_more (s + 1) n ∙ ap (λ (m : ℕ). numbers_from (s + 1) n ++ m ∷ []) e)
 
-below_more : (n : ℕ) → below (n + 1) ≡ below n ++ n ∷ []
+pub below_more : (n : ℕ) → below (n + 1) ≡ below n ++ n ∷ []
 below_more n = let e : n + 1 ≡ suc n = omega arith in let f : 0 + n ≡ n = omega arith in ap below e ∙ (numbers_more 0 n ∙ ap (λ (m : ℕ). below n ++ m ∷ []) f)
 
 length_numbers : (s n : ℕ) → length (numbers_from s n) ≡ n

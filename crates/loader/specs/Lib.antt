@@ -1,3 +1,9 @@
 pub mod Configuration
+pub mod Seen
 pub mod Loading
 pub mod Records
+pub mod Refusals
+pub mod Stores
+pub mod Tested
+pub mod Building
+pub mod After

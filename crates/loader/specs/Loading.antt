@@ -1,18 +1,14 @@
--- What is loaded for a configuration: its words, and the virtual processors of each processor.
-use Rattle.std.specs.Prelude.{ℕ, ◌*◌, Bool, ◌&&◌, ◌==◌, List, [], map, length, replicate, Option, slice_get, slice_set}
+-- What is loaded for a configuration as a view shows it: the virtual processors of each processor.
+use Rattle.std.specs.Prelude.{ℕ, Bool, ◌&&◌, ◌==◌, List, [], if◌then◌else◌, map, length, Option, slice_get}
 use Rattle.std.specs.List.{filter}
 use Rattle.std.specs.Option.{option_map}
 use Rattle.lists.specs.Lists.{below}
-use Rattle.words_layout.specs.Words.{address, Guarded, NextSerial}
 use Rattle.config_text.specs.declared.config.Config.{Config as ConfigText}
 use Rattle.class_model.specs.Config.{ProcessLine}
 use Rattle.process.specs.Standing.{Standing, new_standing}
 use Rattle.machine.specs.Processing.{Processing}
 use Rattle.loader.specs.Configuration.{process_of_text}
-
--- the words of so many classes: all 0, but the next serial of class 0
-abbrev pub loaded_words : ℕ → List ℕ
-loaded_words classes = slice_set (replicate (34869 * classes) 0) (address 0 (Guarded NextSerial)) 1
+use Rattle.loader.specs.Seen.{sees}
 
 -- a process line is of that processor and class
 abbrev pub is_own : ℕ → ℕ → ProcessLine → Bool
@@ -34,14 +30,22 @@ own_lines k p c = filter (is_own p c) (map process_of_text k.processes)
 abbrev pub vp_with : ConfigText → ℕ → List ProcessLine → Processing
 vp_with k c lines = record { class = c; slots = slots_for c lines; current = 0; lines = []; room = k.console }
 
--- the virtual processor of class c on processor p
-abbrev pub loaded_vp : ConfigText → ℕ → ℕ → Processing
-loaded_vp k p c = vp_with k c (own_lines k p c)
+-- the virtual processor of class c on processor p with all its processes
+abbrev pub whole_vp : ConfigText → ℕ → ℕ → Processing
+whole_vp k p c = vp_with k c (own_lines k p c)
+
+-- the lines of class c on processor p that are seen
+abbrev pub lines_seen : ConfigText → Option ℕ → ℕ → ℕ → List ProcessLine
+lines_seen k view p c = if sees k.table view c then own_lines k p c else []
+
+-- the virtual processor of class c on processor p as a view shows it
+abbrev pub loaded_vp : ConfigText → Option ℕ → ℕ → ℕ → Processing
+loaded_vp k view p c = vp_with k c (lines_seen k view p c)
 
 -- the virtual processors of processor p
-abbrev pub loaded_bank : ConfigText → ℕ → List Processing
-loaded_bank k p = map (loaded_vp k p) (below (length k.table))
+abbrev pub loaded_bank : ConfigText → Option ℕ → ℕ → List Processing
+loaded_bank k view p = map (loaded_vp k view p) (below (length k.table))
 
 -- those of all processors
-abbrev pub loaded_banks : ConfigText → List (List Processing)
-loaded_banks k = map (loaded_bank k) (below k.processors)
+abbrev pub loaded_banks : ConfigText → Option ℕ → List (List Processing)
+loaded_banks k view = map (loaded_bank k view) (below k.processors)

@@ -1,15 +1,31 @@
-//! The machine in memory at the opening of a configuration.
+//! The machine in memory at the opening of a configuration, and the volumes after a run.
 #![tactic(auto)]
 
+mod after;
+mod after_laws;
+#[cfg(test)]
+mod after_tests;
+mod cells;
 mod judging;
 mod laws;
+mod loading;
+mod model;
 mod opening;
+mod origins;
 mod processors;
 mod record_tests;
+mod seeing;
 mod shared;
+mod storing;
 #[cfg(test)]
 mod tests;
 
+pub use after::volume_after;
+pub use after_laws::after_law;
 pub use judging::{RecordFault, first_fault};
 pub use laws::{valid_law, volumes_law};
+pub use loading::{LoadError, load_state, load_state_low};
+pub use model::model_state;
 pub use opening::opening_machine;
+pub use seeing::records_seen;
+pub use shared::shared_seen;

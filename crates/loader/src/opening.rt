@@ -1,31 +1,44 @@
 //! The whole machine.
 
-ghost use Rattle.std.specs.Prelude.{◌≡◌, ◌≤◌, ◌/◌, [], IfOk, length};
+ghost use Rattle.std.specs.Prelude.{◌≡◌, [], List, IfOk, length};
 ghost use Rattle.config_text.specs.Valid.{IsValid};
+ghost use Rattle.class_model.specs.Config.{SegRecord as RecordValue};
 ghost use Rattle.machine.specs.Banks.{machine_of};
 ghost use Rattle.machine.specs.Opening.{opening};
 ghost use Rattle.loader.specs.Configuration.{configuration};
-ghost use Rattle.loader.specs.Loading.{loaded_words};
+ghost use Rattle.loader.specs.Seen.{seen, IsView};
+ghost use Rattle.loader.specs.Stores.{AreStorable};
 
-use crate::processors::banks_of;
-use crate::shared::shared_of;
+use crate::processors::banks_seen;
+use crate::shared::shared_seen;
+use crate::storing::words_with;
 use config_text::Config;
 use machine::{Machine, MachineParts};
 use std::alloc::{AllocError, Global};
-use words_layout::{Op, PlainWords, WordPort, serial_addr};
+use volume_image::SegRecord;
+use words_layout::PlainWords;
 
-/// The serial of the root, which has no record, is taken.
-const FIRST_SERIAL: u64 = 1;
-
-/// The words of so many classes: all 0, but the next serial of class 0.
-fn words_of(alloc: Global, classes: u8) -> Result<PlainWords, AllocError>
-    requires { (1 ≤ classes) × (classes ≤ 16) }
-    ensures words { IfOk result (λ w. w ≡ loaded_words classes) }
-    ensures layout { IfOk result (λ w. length w / 34869 ≡ classes) }
+/// The machine at the opening of a configuration as the view shows it, where it shows these records.
+pub fn machine_seen(
+    alloc: Global,
+    config: &Config,
+    view: Option<u8>,
+    records: &[SegRecord],
+) -> Result<Machine<PlainWords>, AllocError>
+    requires valid { IsValid config.now }
+    requires view { IsView config.now.table view }
+    requires records { AreStorable (length config.now.table) records.now }
+    ensures opening { IfOk result (λ m. (all : List RecordValue) → (seen (configuration config.now all) view).records ≡ records.now → machine_of m ≡ opening (seen (configuration config.now all) view)) }
+    ensures processors { IfOk result (λ m. length m.banks ≡ config.now.processors) }
 {
-    let mut words = PlainWords::new(alloc, classes)?;
-    let _nothing = words.perform(Op::Store(serial_addr(0), FIRST_SERIAL));
-    Ok(words)
+    let shared = shared_seen(alloc, config, view)?;
+    let banks = banks_seen(alloc, config, view)?;
+    let words = words_with(alloc, config.table.count(), records)?;
+    Ok(Machine::from_parts(MachineParts {
+        words,
+        banks,
+        shared,
+    }))
 }
 
 /// The machine at the opening of a valid configuration whose volumes hold nothing. It takes all memory that the machine
@@ -35,12 +48,7 @@ pub fn opening_machine(alloc: Global, config: &Config) -> Result<Machine<PlainWo
     ensures opening { IfOk result (λ m. machine_of m ≡ opening (configuration config.now [])) }
     ensures processors { IfOk result (λ m. length m.banks ≡ config.now.processors) }
 {
-    let shared = shared_of(alloc, config)?;
-    let banks = banks_of(alloc, config)?;
-    let words = words_of(alloc, config.table.count())?;
-    Ok(Machine::from_parts(MachineParts {
-        words,
-        banks,
-        shared,
-    }))
+    let none = Vec::new(alloc);
+    let machine = machine_seen(alloc, config, None, none.as_slice())?;
+    Ok(machine)
 }

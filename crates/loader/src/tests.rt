@@ -1,15 +1,60 @@
-//! A configuration of two processors and two classes, and its machine at the opening.
+//! A configuration without records on two processors, and one of three classes with two volumes.
 
-use crate::opening_machine;
-use config_text::read_config;
+ghost use Rattle.std.specs.Prelude.{◌≡◌, IfOk};
+ghost use Rattle.volume_image.specs.Valid.{IsVolume};
+ghost use Rattle.loader.specs.Records.{AreVolumes};
+ghost use Rattle.loader.specs.Tested.{names_volume, names_two};
+
+use crate::{LoadError, load_state, load_state_low, opening_machine};
+use config_text::{Config, read_config};
 use machine::Machine;
 use std::alloc::Global;
 use std::test::Fail;
-use words_layout::PlainWords;
+use volume_image::{Volume, read_volume};
+use words_layout::{
+    Addr, PlainWords, SegId, entry_addr, home_addr, page_tenant_addr, page_word_addr, serial_addr,
+};
 
 /// The high class has two processes on processor 0 and one on processor 1; the low class has one on processor 1.
 const TEXT: &str =
     "gemkernel 1\nclasses 2\nclass low 0{}/15{} frames 2 pages 2 volume 0\nclass high 1{}/15{} frames 2 pages 2 volume 0\nprocessors 2\ncycle 0\nrounds 1\nquantum 1\nconsole 10\nscript 0\nhalt\nend\nscript 1\nset r2 5\nhalt\nend\nprocess 0 1 0 4\nprocess 1 1 0 5\nprocess 1 0 0 6\nprocess 0 1 1 7\nend\n";
+
+/// Volume 1 has the classes low and mid, volume 2 the class high, which has one page. Mid and high have a process each.
+const THREE: &str =
+    "gemkernel 1\nclasses 3\nclass low 0{}/15{} frames 2 pages 2 volume 1\nclass mid 1{}/15{} frames 2 pages 2 volume 1\nclass high 2{}/15{} frames 2 pages 1 volume 2\nprocessors 1\ncycle 0\nrounds 1\nquantum 1\nconsole 10\nscript 1\nhalt\nend\nscript 2\nhalt\nend\nprocess 0 1 0 4\nprocess 0 2 1 4\nend\n";
+
+/// What every volume of these classes begins with in format 1.
+const HEADER: [u8; 39] = [
+    b'G', b'E', b'M', b'V', b'O', b'L', 1, 0, 3, 0, 0, 0, 0, 0, 15, 0, 0, 0, 0, 1, 0, 0, 0, 0, 15,
+    0, 0, 0, 0, 2, 0, 0, 0, 0, 15, 0, 0, 0, 0,
+];
+
+/// A segment of two words: its identity, class, mentor and entry, and the first of its words if they were kept.
+type Line = (u8, u8, u8, u8, u8, u8, Option<u8>);
+
+const FIRST: [Line; 3] = [
+    (0, 1, 0, 0, 0, 0, Some(10)),
+    (0, 2, 1, 0, 0, 1, Some(20)),
+    (0, 5, 1, 0, 1, 3, Some(22)),
+];
+
+const SECOND: [Line; 3] = [
+    (0, 6, 2, 0, 0, 2, Some(30)),
+    (1, 0, 2, 0, 5, 7, None),
+    (2, 0, 2, 1, 0, 0, None),
+];
+
+/// A volume, a place in it and the line that is put there, and the fault.
+const FAULTS: [(u8, usize, Line, (u8, u16, u8)); 8] = [
+    (1, 1, (0, 2, 2, 0, 0, 1, None), (1, 1, 1)),
+    (2, 0, (0, 5, 2, 0, 0, 2, None), (2, 0, 2)),
+    (1, 2, (0, 5, 1, 0, 3, 3, None), (1, 2, 3)),
+    (2, 1, (1, 0, 2, 0, 1, 7, None), (2, 1, 3)),
+    (1, 1, (0, 2, 1, 0, 0, 0, None), (1, 1, 4)),
+    (2, 1, (1, 0, 2, 0, 5, 7, Some(32)), (2, 1, 5)),
+    (2, 1, (0, 7, 1, 0, 0, 4, None), (2, 1, 1)),
+    (2, 0, (0, 2, 2, 0, 0, 1, None), (2, 0, 2)),
+];
 
 /// The script and the ring of the process of a slot.
 fn process_at(
@@ -42,6 +87,114 @@ fn opened(alloc: Global) -> Result<Machine<PlainWords>, Fail> {
     }
 }
 
+/// Appends the bytes of a segment with brackets 4 5 6.
+fn put_line(bytes: &mut Vec<u8>, line: Line) -> Result<(), Fail> {
+    bytes.extend_from_slice(&[line.0, line.1, line.2, 4, 5, 6, 2, line.3, line.4, line.5])?;
+    match line.6 {
+        None => bytes.push(0)?,
+        Some(word) => {
+            bytes.push(1)?;
+            bytes.extend_from_slice(&u64::from(word).to_be_bytes())?;
+            bytes.extend_from_slice(&(u64::from(word) + 1).to_be_bytes())?;
+        }
+    }
+    Ok(())
+}
+
+/// The volume of three segments.
+fn volume_of(alloc: Global, config: &Config, lines: [Line; 3]) -> Result<Volume, Fail>
+    ensures { IfOk result (λ v. IsVolume config.now.table v) }
+{
+    let mut bytes = Vec::from_slice(alloc, &HEADER)?;
+    bytes.extend_from_slice(&[0, 3])?;
+    for line in lines {
+        put_line(&mut bytes, line)?;
+    }
+    if bytes.len() > 1000 {
+        return Err(Fail::from("long"));
+    }
+    match read_volume(alloc, bytes.as_slice(), &config.table) {
+        Ok(volume) => Ok(volume),
+        Err(_) => Err(Fail::from("a volume")),
+    }
+}
+
+/// Whether a pool names the volume.
+fn names(config: &Config, number: u8) -> bool
+    ensures { result ≡ names_volume config.now number }
+{
+    config
+        .pools
+        .as_slice()
+        .iter()
+        .any(|pool| pool.volume == number)
+}
+
+/// Whether the pools name just the volumes 1 and 2.
+fn has_two(config: &Config) -> bool
+    ensures { result ≡ names_two config.now }
+{
+    names(config, 1) && names(config, 2) && !names(config, 3) && !names(config, 4)
+}
+
+/// Both volumes, where the configuration has just these.
+fn both(
+    alloc: Global,
+    config: &Config,
+    first: Volume,
+    second: Volume,
+) -> Result<Vec<(u8, Volume)>, Fail>
+    requires first { IsVolume config.now.table first }
+    requires second { IsVolume config.now.table second }
+    ensures { IfOk result (λ v. AreVolumes config.now v.items) }
+{
+    if !has_two(config) {
+        return Err(Fail::from("two volumes"));
+    }
+    let mut volumes = Vec::new(alloc);
+    volumes.push((1, first))?;
+    volumes.push((2, second))?;
+    Ok(volumes)
+}
+
+/// What the text and these segments are loaded as, up to a class if there is one.
+fn load(
+    alloc: Global,
+    first: [Line; 3],
+    second: [Line; 3],
+    view: Option<u8>,
+) -> Result<Result<Machine<PlainWords>, LoadError>, Fail> {
+    let Ok(config) = read_config(alloc, THREE.as_bytes()) else {
+        return Err(Fail::from("a configuration"));
+    };
+    let first = volume_of(alloc, &config, first)?;
+    let second = volume_of(alloc, &config, second)?;
+    let volumes = both(alloc, &config, first, second)?;
+    match view {
+        Some(class) if class < config.table.count() => {
+            Ok(load_state_low(alloc, &config, volumes.as_slice(), class))
+        }
+        _ => Ok(load_state(alloc, &config, volumes.as_slice())),
+    }
+}
+
+/// The fault, if there is one.
+fn fault_of(loaded: Result<Machine<PlainWords>, LoadError>) -> Option<(u8, u16, u8)> {
+    match loaded {
+        Err(LoadError::Fault { volume, item, code }) => Some((volume, item, code)),
+        _ => None,
+    }
+}
+
+/// Three segments, with one of them changed.
+fn with_line(lines: [Line; 3], item: usize, line: Line) -> [Line; 3] {
+    let mut changed = lines;
+    if item < 3 {
+        changed[item] = line;
+    }
+    changed
+}
+
 #[test]
 fn a_machine_at_the_opening(rt: HostRuntime) -> Result<(), Fail> {
     let machine = opened(rt.alloc())?;
@@ -66,5 +219,100 @@ fn a_machine_at_the_opening(rt: HostRuntime) -> Result<(), Fail> {
     assert_eq!(rt; words.get(34_873), Some(&0));
     assert_eq!(rt; ended(&machine, 0), Some(false));
     assert_eq!(rt; ended(&machine, 1), Some(false));
+    Ok(())
+}
+
+#[test]
+fn faults_of_records(rt: HostRuntime) -> Result<(), Fail> {
+    for (volume, item, line, fault) in FAULTS {
+        let first = if volume == 1 {
+            with_line(FIRST, item, line)
+        } else {
+            FIRST
+        };
+        let second = if volume == 2 {
+            with_line(SECOND, item, line)
+        } else {
+            SECOND
+        };
+        assert_eq!(rt;
+            fault_of(load(rt.alloc(), first, second, None)?),
+            Some(fault)
+        );
+        assert_eq!(rt;
+            fault_of(load(rt.alloc(), first, second, Some(0))?),
+            Some(fault)
+        );
+    }
+    Ok(())
+}
+
+/// Words of the three classes: all of them, and what is left of them for the middle class.
+fn expected() -> [(Addr, u64, u64); 20] {
+    let root = SegId {
+        mentor: 0,
+        serial: 0,
+    };
+    let low = SegId {
+        mentor: 0,
+        serial: 1,
+    };
+    let mid = SegId {
+        mentor: 0,
+        serial: 2,
+    };
+    let inner = SegId {
+        mentor: 0,
+        serial: 5,
+    };
+    let high = SegId {
+        mentor: 0,
+        serial: 6,
+    };
+    let top = SegId {
+        mentor: 1,
+        serial: 0,
+    };
+    [
+        (serial_addr(0), 7, 7),
+        (serial_addr(1), 1, 1),
+        (serial_addr(2), 1, 0),
+        (entry_addr(0, root, 0), 0x0102_0654_0001, 0x0102_0654_0001),
+        (entry_addr(0, root, 1), 0x0202_0654_0101, 0x0202_0654_0101),
+        (entry_addr(0, root, 2), 0x0602_0654_0201, 0x0602_0654_0201),
+        (entry_addr(0, low, 3), 0x0502_0654_0101, 0x0502_0654_0101),
+        (entry_addr(1, inner, 7), 0x0002_0654_0201, 0x0002_0654_0201),
+        (entry_addr(2, top, 0), 0x0002_0654_0201, 0),
+        (entry_addr(0, root, 3), 0, 0),
+        (home_addr(0, low), 0x0201_0001, 0x0201_0001),
+        (home_addr(1, mid), 0x0201_0001, 0x0201_0001),
+        (home_addr(1, inner), 0x0202_0001, 0x0202_0001),
+        (home_addr(2, high), 0x0201_0001, 0),
+        (home_addr(2, top), 0, 0),
+        (page_tenant_addr(0, 0), 2, 2),
+        (page_tenant_addr(1, 1), 6, 6),
+        (page_tenant_addr(2, 0), 7, 0),
+        (page_word_addr(1, 1, 1), 23, 23),
+        (page_word_addr(2, 0, 0), 30, 0),
+    ]
+}
+
+#[test]
+fn records_in_their_places(rt: HostRuntime) -> Result<(), Fail> {
+    let Ok(whole) = load(rt.alloc(), FIRST, SECOND, None)? else {
+        return Err(Fail::from("all"));
+    };
+    let Ok(part) = load(rt.alloc(), FIRST, SECOND, Some(1))? else {
+        return Err(Fail::from("a part"));
+    };
+    for (addr, all, low) in expected() {
+        let place = addr.0 as usize;
+        assert_eq!(rt; whole.words().as_slice().get(place), Some(&all), "{place}");
+        assert_eq!(rt; part.words().as_slice().get(place), Some(&low), "{place}");
+    }
+    assert_eq!(rt; process_at(&whole, 0, 1, 0), Some((0, 4)));
+    assert_eq!(rt; process_at(&whole, 0, 2, 0), Some((1, 4)));
+    assert_eq!(rt; process_at(&part, 0, 1, 0), Some((0, 4)));
+    assert_eq!(rt; process_at(&part, 0, 2, 0), None);
     Ok(())
 }

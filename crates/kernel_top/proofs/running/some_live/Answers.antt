@@ -1,4 +1,4 @@
-use Rattle.std.proofs.Common.{ℕ, Bool, true, false, sym, ap, ◌≡◌, ◌∙◌, arith, length}
+use Rattle.std.proofs.Common.{sym, ap, ◌∙◌, arith, length}
 use Rattle.class_model.specs.Config.{Shared, classes}
 use Rattle.machine.specs.Banks.{machine_of}
 use Rattle.kernel_top.specs.Headline.{class_live}

@@ -1,18 +1,13 @@
-use Rattle.std.proofs.Common.{ℕ, List, length, ap, ◌∙◌}
-use Rattle.machine.specs.Banks.{State}
-use Rattle.loader.specs.Loading.{loaded_words}
-use Rattle.loader.proofs.Banks.{banks_length}
-use Rattle.loader.proofs.Loaded.{machine_is, parts_fit}
+use Rattle.std.proofs.Common.{[], sym, subst, ◌∙◌, length}
+use Rattle.loader.specs.Configuration.{configuration}
+use Rattle.loader.specs.Stores.{AreStorable}
+use Rattle.loader.proofs.Validity.{is_config}
+use Rattle.loader.proofs.Storable.{storable}
 use Rattle.loader.proofs.opening.opening_machine.Goals as goal
 
-pub from_parts-requires : goal.from_parts-requires
-from_parts-requires c = parts_fit c.args.config.now c.requires _ c.in_ok-banks.banks c.in_ok-shared.shared (c.in_ok-words.ensures.layout ∙ c.count.ensures) c.in_ok-banks.ensures c.in_ok-shared.ensures
+pub machine_seen-requires-clause-records : goal.machine_seen-requires-clause-records
+machine_seen-requires-clause-records c =
+    subst (AreStorable (length c.args.config.now.table)) (sym (c.as_slice.ensures.value ∙ c.new-none.ensures.items)) (storable (configuration c.args.config.now []) (is_config c.args.config.now c.requires))
 
 pub returns-clause-opening : goal.returns-clause-opening
-returns-clause-opening c = machine_is c.args.config.now c.requires c.from_parts.result
-    (ap (λ (m : State (List ℕ)). m.words) c.from_parts.ensures ∙ c.in_ok-words.ensures.words ∙ ap loaded_words c.count.ensures)
-    (ap (λ (m : State (List ℕ)). m.banks) c.from_parts.ensures ∙ c.in_ok-banks.ensures)
-    (ap (λ (m : State (List ℕ)). m.shared) c.from_parts.ensures ∙ c.in_ok-shared.ensures)
-
-pub returns-clause-processors : goal.returns-clause-processors
-returns-clause-processors c = ap (λ (m : State (List ℕ)). length m.banks) c.from_parts.ensures ∙ ap length c.in_ok-banks.ensures ∙ banks_length c.args.config.now c.requires
+returns-clause-opening c = c.in_ok-machine.ensures.opening [] (sym (c.as_slice.ensures.value ∙ c.new-none.ensures.items))

@@ -1,0 +1,95 @@
+-- The input of a command: what the ports' bytes spell, and how far they were read. Where a sentence speaks of bytes left, it
+-- holds for a host that tells them.
+use Rattle.std.specs.Prelude.{◌≡◌, ◌<◌, ◌≤◌, ℕ, zero, suc, List, [], length, Contains, Some, None}
+use Rattle.std.specs.List.{AllByRecursion}
+use Rattle.host_ports.specs.Ports.{Port, Told}
+use Rattle.labels.specs.Label.{ClassEntry}
+use Rattle.config_text.specs.declared.config.Config.{Config as ConfigText}
+use Rattle.config_text.specs.Text.{Spells}
+use Rattle.class_model.specs.Config.{Config, SegRecord}
+use Rattle.volume_image.specs.Volumes.{Spells as SpellsVolume}
+use Rattle.loader.specs.Configuration.{configuration}
+use Rattle.loader.specs.Records.{Volumes, AreVolumes, Ascend, Loads, named_by, numbers_of, records_of}
+
+-- the ports of a host
+abbrev pub Ports : Type 0
+Ports = ℕ → Port
+
+-- what holds of the bytes that a host tells
+abbrev pub IfTold : Told → (List ℕ → Type 0) → Type 0
+IfTold None P = Unit {0}
+IfTold (Some bytes) P = P bytes
+
+-- the most bytes that a port may have: a configuration at port 0, a volume at any other
+abbrev pub limit : ℕ → ℕ
+limit zero = 1048576
+limit (suc p) = 4194304
+
+-- no port has changed
+abbrev pub Untouched : Ports → Ports → Type 0
+Untouched before after = (p : ℕ) → after p ≡ before p
+
+-- no port has taken a byte, or failed to
+pub record NothingPushed (before after : Ports) : Type 0 where
+  pub taken : (p : ℕ) → (after p).taken ≡ (before p).taken
+  pub pushes : (p : ℕ) → (after p).pushes ≡ (before p).pushes
+
+-- all that the port had left was read, and it is within the limit
+abbrev pub IsReadWhole : ℕ → Ports → Ports → Type 0
+IsReadWhole p before after = IfTold (before p).left (λ bytes. (length bytes ≤ limit p) × ((after p).left ≡ Some []))
+
+-- P holds of the configuration that the bytes left spell
+abbrev pub OfConfiguration : Told → (ConfigText → Type 0) → Type 0
+OfConfiguration left P = IfTold left (λ bytes. (k : ConfigText) × Spells bytes k × P k)
+
+-- the configuration with its volumes, as the machines' plain data
+abbrev pub loaded : ConfigText → Volumes → Config
+loaded k vs = configuration k (records_of vs)
+
+-- the volume is what the bytes left at its port spell
+abbrev pub IsVolumeLeft : List ClassEntry → Ports → ℕ × List SegRecord → Type 0
+IsVolumeLeft table before v = IfTold (before v.0).left (λ bytes. SpellsVolume table bytes v.1)
+
+-- The input of a run: the configuration that the bytes left at port 0 spell, and the volumes that it names, as the bytes left
+-- at their ports spell them, where no record is at fault.
+pub record IsInput (before : Ports) (k : ConfigText) (vs : Volumes) : Type 0 where
+  pub config : IfTold (before 0).left (λ bytes. Spells bytes k)
+  pub volumes : AreVolumes k vs
+  pub left : AllByRecursion (IsVolumeLeft k.table before) vs
+  pub loads : Loads k vs
+
+-- P holds of the input of a run
+abbrev pub OfInput : Ports → (ConfigText → Volumes → Type 0) → Type 0
+OfInput before P = (k : ConfigText) × (vs : Volumes) × IsInput before k vs × P k vs
+
+-- ---- how far the input was read
+
+-- a volume was read from its port
+pub record IsAccepted (table : List ClassEntry) (before after : Ports) (v : ℕ × List SegRecord) : Type 0 where
+  pub port : 1 ≤ v.0
+  pub left : IsVolumeLeft table before v
+  pub whole : IsReadWhole v.0 before after
+
+-- the numbers are just those below n of the volumes that the configuration names
+pub record AreNamedBelow (n : ℕ) (k : ConfigText) (numbers : List ℕ) : Type 0 where
+  pub ascend : Ascend 0 numbers
+  pub named : (p : ℕ) → Contains numbers p → (p < n) × Contains (named_by k) p
+  pub all : (p : ℕ) → 1 ≤ p → p < n → Contains (named_by k) p → Contains numbers p
+
+-- Port 0 and the ports below n that the configuration names were read to their end, and spell the configuration and these
+-- volumes.
+pub record ReadsBelow (n : ℕ) (before after : Ports) (k : ConfigText) (vs : Volumes) : Type 0 where
+  pub config : IfTold (before 0).left (λ bytes. Spells bytes k)
+  pub whole : IsReadWhole 0 before after
+  pub volumes : AllByRecursion (IsAccepted k.table before after) vs
+  pub numbers : AreNamedBelow n k (numbers_of vs)
+
+-- the whole input was read, and no record is at fault
+pub record InputRead (before after : Ports) (k : ConfigText) (vs : Volumes) : Type 0 where
+  pub reads : ReadsBelow 5 before after k vs
+  pub valid : AreVolumes k vs
+  pub loads : Loads k vs
+
+-- Port p is the next one to be read: port 0, or one that the configuration names, where port 0 and those before it were read.
+abbrev pub IsNext : ℕ → Ports → Ports → (ConfigText → Type 0) → Type 0
+IsNext p before after P = (k : ConfigText) × (vs : Volumes) × (1 ≤ p) × (p < 5) × Contains (named_by k) p × ReadsBelow p before after k vs × P k
