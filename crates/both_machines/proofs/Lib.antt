@@ -1,1 +1,2 @@
 pub mod OneVolume
+pub mod TwoVolumes

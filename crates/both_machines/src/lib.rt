@@ -1,7 +1,11 @@
-//! The step machine and the machine of whole instructions, run side by side on one configuration. It holds tests alone.
+//! Tests alone: what the loader makes of configurations with their volumes, and both machines side by side on one configuration.
 #![tactic(auto)]
 
 #[cfg(test)]
+mod images;
+#[cfg(test)]
 mod loaded;
+#[cfg(test)]
+mod loading;
 #[cfg(test)]
 mod tests;

@@ -3,12 +3,11 @@
 
 ghost use Rattle.std.specs.Prelude.{◌≡◌, ◌<◌, ◌&&◌, not, IfOk};
 ghost use Rattle.config_text.specs.Valid.{IsValid};
-ghost use Rattle.loader.specs.Records.{AreVolumes};
-ghost use Rattle.loader.specs.Tested.{names_volume};
+ghost use Rattle.loader.specs.Records.{AreVolumes, names_volume};
 ghost use Rattle.volume_image.specs.Valid.{IsVolume};
 
 use config_text::{Config, read_config};
-use loader::model_state;
+use loader::{model_state, names_volume};
 use std::alloc::Global;
 use std::test::Fail;
 use volume_image::{Volume, read_volume};
@@ -49,22 +48,14 @@ fn volume(alloc: Global, config: &Config) -> Result<Volume, Fail>
     }
 }
 
-/// Whether a pool names the volume.
-fn names(config: &Config, number: u8) -> bool
-    ensures { result ≡ names_volume config.now number }
-{
-    config
-        .pools
-        .as_slice()
-        .iter()
-        .any(|pool| pool.volume == number)
-}
-
 /// Whether the pools name volume 1 and no other.
 fn has_one(config: &Config) -> bool
     ensures { result ≡ (names_volume config.now 1 && not (names_volume config.now 2) && not (names_volume config.now 3) && not (names_volume config.now 4)) }
 {
-    names(config, 1) && !names(config, 2) && !names(config, 3) && !names(config, 4)
+    names_volume(config, 1)
+        && !names_volume(config, 2)
+        && !names_volume(config, 3)
+        && !names_volume(config, 4)
 }
 
 /// The volume alone, where the configuration has no other.

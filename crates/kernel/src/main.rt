@@ -3,6 +3,11 @@
 
 mod text;
 
+ghost use Rattle.std.specs.Prelude.{◌≡◌, ◌⊎◌, map, string_bytes};
+ghost use Rattle.kernel_top.specs.declared.command.Command.{Command};
+ghost use Rattle.kernel_top.specs.declared.command.Command.TheVariants.{Sim};
+ghost use Rattle.kernel_top.specs.Answer.{Asks, UsageShows, CauseShows, IfRan, Reported};
+
 use host_ports::{FileHost, Host};
 use kernel_top::{Status, sim_main};
 use std::io::ErrorKind;
@@ -27,8 +32,14 @@ fn words_after_name(rt: &(impl Env + AllocGlobal)) -> Result<Option<Vec<String>>
     Ok(Some(words))
 }
 
-/// What the top call answers to those words on that host.
-fn run<H: Host>(rt: &impl AllocGlobal, words: &[String], host: &mut H) -> Status {
+/// What the top call answers to those words on that host, or NoMemory.
+fn run<H: Host>(rt: &impl AllocGlobal, words: &[String], host: &mut H) -> Status
+    // By `sim`, Done or Unfinished: the report of the configuration with its volumes, written whole.
+    ensures headline { Asks (map string_bytes words.now) Sim → IfRan result (Reported (H.ports host.old) (H.ports host.new)) }
+    // Why each answer comes.
+    ensures usage { (result ≡ Status.NoMemory) ⊎ UsageShows (map string_bytes words.now) (H.ports host.old) (H.ports host.new) result }
+    ensures cause { (c : Command) → Asks (map string_bytes words.now) c → CauseShows c (H.ports host.old) (H.ports host.new) result }
+{
     let mut texts = Vec::new(rt.alloc());
     for word in words {
         if texts.push(word.as_str()).is_err() {

@@ -15,7 +15,8 @@ use Rattle.kernel_top.specs.declared.command.Command.TheVariants.{Sim}
 use Rattle.kernel_top.specs.Input.{Ports, IfTold, NothingPushed, IsReadWhole, IsNext, limit}
 use Rattle.kernel_top.specs.Reading.{ReadsIn, VolumeFails, FailsAt}
 use Rattle.kernel_top.specs.Answer.{RunCause, OthersShow, SilenceShows}
-use Rattle.kernel_top.proofs.Reading.{contains_behind, contains_cases, silent_pull, silent_on, told_as, told_of, whole_as, reads_below}
+use Rattle.loader.proofs.NamedVolumes.{contains_behind, contains_cases}
+use Rattle.kernel_top.proofs.Reading.{silent_pull, silent_on, told_as, told_of, whole_as, reads_below}
 
 -- a number is among others, or it isn't
 pub contains_or_not : (xs : List ℕ) (p : ℕ) → Contains xs p ⊎ (Contains xs p → ⊥)

@@ -1,21 +1,21 @@
 -- Reading the ports: port 0, and then each volume that the configuration names.
-use Rattle.std.proofs.Common.{◌≡◌, ◌≢◌, ℕ, zero, suc, ◌+◌, ◌<◌, ◌≤◌, ◌⊎◌, inl, inr, Bool, true, false, List, [], ◌∷◌, ◌++◌, length, take, map, refl, sym, ap, subst, ◌∙◌, Some, None, arith}
-use Rattle.std.proofs.lemmas.Bool.{cases_eq, cases_lt, eqb-true, eq-eqb}
+use Rattle.std.proofs.Common.{◌≡◌, ◌≢◌, ℕ, zero, suc, ◌+◌, ◌<◌, ◌≤◌, ◌⊎◌, inl, inr, List, [], ◌∷◌, ◌++◌, length, take, refl, sym, ap, subst, ◌∙◌, Some, None, arith}
+use Rattle.std.proofs.lemmas.Bool.{cases_eq, cases_lt}
 use Rattle.std.proofs.lemmas.List.{drop_all, take_all, length-take-le, map_push}
 use Rattle.std.proofs.lemmas.List.Elements.{Contains-push, Contains-push_cases, Contains-append_left}
-use Rattle.std.specs.Prelude.{◌==◌, ◌||◌, Contains}
-use Rattle.std.specs.List.{AllByRecursion, list_any}
+use Rattle.std.specs.Prelude.{Contains}
+use Rattle.std.specs.List.{AllByRecursion}
 use Rattle.labels.specs.Label.{ClassEntry}
 use Rattle.host_ports.specs.Ports.{Port, Told, PullKeeps, FillsWhole}
 use Rattle.config_text.specs.declared.config.Config.{Config as ConfigText}
-use Rattle.config_text.specs.declared.config.Pool.{Pool}
 use Rattle.config_text.specs.Text.{Spells}
 use Rattle.class_model.specs.Config.{SegRecord}
 use Rattle.volume_image.specs.Valid.{IsVolume}
 use Rattle.volume_image.specs.Volumes.{Spells as SpellsVolume}
 use Rattle.loader.specs.Records.{Volumes, AreVolumes, Ascend, named_by, numbers_of}
+use Rattle.loader.proofs.NamedVolumes.{contains_behind}
 use Rattle.kernel_top.specs.Input.{Ports, IfTold, NothingPushed, IsReadWhole, IsVolumeLeft, IsAccepted, AreNamedBelow, ReadsBelow, limit}
-use Rattle.kernel_top.specs.Reading.{is_named, ReadsIn, VolumeReads, VolumesRead}
+use Rattle.kernel_top.specs.Reading.{ReadsIn, VolumeReads, VolumesRead}
 
 -- ---- one port
 
@@ -78,9 +78,6 @@ accepted_as table before after begin end v e f h = record {
   left = told_as (λ bytes. SpellsVolume table bytes v.1) (before v.0).left (begin v.0).left e h.left;
   whole = whole_as v.0 before after begin end e f h.whole;
 }
-
-pub contains_behind : (x : ℕ) (xs : List ℕ) (p : ℕ) → Contains xs p → Contains (x ∷ xs) p
-contains_behind x xs p h = let lt = h.1 in (suc h.0, omega arith, h.2)
 
 pub all_accepted_as : (table : List ClassEntry) (before after begin end : Ports) (vs : Volumes) →
     ((p : ℕ) → 1 ≤ p → Contains (numbers_of vs) p → ((begin p).left ≡ (before p).left) × ((end p).left ≡ (after p).left)) → AllByRecursion (IsAccepted table before after) vs →
@@ -153,44 +150,6 @@ numbers_more n k numbers some h named = record {
     there : (p : ℕ) → 1 ≤ p → p < n + 1 → Contains (named_by k) p → (p ≡ n) ⊎ (p ≢ n) → Contains (numbers ++ n ∷ []) p
     there p least lt c (inl e) = subst (Contains (numbers ++ n ∷ [])) (sym e) (Contains-push numbers n)
     there p least lt c (inr other) = Contains-append_left numbers (n ∷ []) p (h.all p least (lt_of_ne p n lt other) c)
-
--- ---- which volumes a configuration names
-
--- the first number, or one behind it
-pub contains_cases : (x : ℕ) (xs : List ℕ) (n : ℕ) → Contains (x ∷ xs) n → (x ≡ n) ⊎ Contains xs n
-contains_cases x xs n (zero, lt, e) = inl e
-contains_cases x xs n (suc i, lt, e) = inr (i, omega (arith, lt), e)
-
-abbrev volumes_in : List Pool → List ℕ
-volumes_in pools = map (λ (p : Pool). p.volume) pools
-
-abbrev names : ℕ → List Pool → Bool
-names n pools = list_any (λ (p : Pool). p.volume == n) pools
-
-named_first : (p : Pool) (pools : List Pool) (n : ℕ) (b : Bool) → (p.volume == n) ≡ b → (names n pools ≡ true → Contains (volumes_in pools) n) → (b || names n pools) ≡ true →
-    Contains (volumes_in (p ∷ pools)) n
-named_first p pools n true e rest h = (0, omega arith, eqb-true p.volume n e)
-named_first p pools n false e rest h = contains_behind p.volume (volumes_in pools) n (rest h)
-
-named_in : (pools : List Pool) (n : ℕ) → names n pools ≡ true → Contains (volumes_in pools) n
-named_in [] n h = absurd (cc)
-named_in (p ∷ pools) n h = named_first p pools n (p.volume == n) refl (named_in pools n) h
-
-unnamed_first : (p : Pool) (pools : List Pool) (n : ℕ) (b : Bool) → (p.volume == n) ≡ b → (names n pools ≡ false → Contains (volumes_in pools) n → ⊥) → (b || names n pools) ≡ false →
-    (p.volume ≡ n) ⊎ Contains (volumes_in pools) n → ⊥
-unnamed_first p pools n true e rest h c = absurd (cc)
-unnamed_first p pools n false e rest h (inl same) = let t = eq-eqb p.volume n same in absurd (cc)
-unnamed_first p pools n false e rest h (inr d) = rest h d
-
-unnamed_in : (pools : List Pool) (n : ℕ) → names n pools ≡ false → Contains (volumes_in pools) n → ⊥
-unnamed_in [] n h c = let lt = c.1 in absurd (omega arith)
-unnamed_in (p ∷ pools) n h c = unnamed_first p pools n (p.volume == n) refl (unnamed_in pools n) h (contains_cases p.volume (volumes_in pools) n c)
-
-pub named_yes : (k : ConfigText) (n : ℕ) (b : Bool) → b ≡ is_named k n → b ≡ true → Contains (named_by k) n
-named_yes k n b e h = named_in k.pools n (sym e ∙ h)
-
-pub named_no : (k : ConfigText) (n : ℕ) (b : Bool) → b ≡ is_named k n → b ≡ false → Contains (named_by k) n → ⊥
-named_no k n b e h = unnamed_in k.pools n (sym e ∙ h)
 
 -- ---- the volumes
 

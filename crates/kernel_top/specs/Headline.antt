@@ -3,28 +3,23 @@ use Rattle.std.specs.Prelude.{ℕ, Bool, List, length}
 use Rattle.std.specs.List.{flat_map, list_any}
 use Rattle.lists.specs.Lists.{below}
 use Rattle.words_layout.specs.declared.op.Event.{Event}
-use Rattle.class_model.specs.Config.{Config, low_config}
-use Rattle.class_model.specs.Run.{run}
-use Rattle.class_model.specs.Section.{section}
+use Rattle.class_model.specs.Config.{Config}
 use Rattle.machine.specs.Machine.{Machine, is_live}
-use Rattle.machine.specs.Opening.{machine, effects}
-use Rattle.machine.specs.Low.{low_events}
-use Rattle.report.specs.Reported.{section as section_of_words}
+use Rattle.machine.specs.Opening.{machine}
+use Rattle.report.specs.Reported.{section}
+use Rattle.report_laws.specs.Shown.{low_section}
 use Rattle.volume_image.specs.Written.{written}
 use Rattle.loader.specs.After.{records_after, tree_of_words}
 
--- What class c is shown: the section of the machine of whole instructions, given only the configuration at or below c and
--- the order in which the steps of words that are at or below c took effect.
-abbrev pub low_section : Config → List Event → ℕ → List ℕ
-low_section k events c = section c (run (low_config c k) (effects (low_config c k) (low_events k.table c events)))
-
--- the report: what each class is shown, in the order of the classes
+-- The report: what each class is shown, in the order of the classes. `low_section` is the section of the machine of whole
+-- instructions, given only the configuration at or below the class and the order in which the steps of words at or below it
+-- took effect.
 abbrev pub report_of : Config → List Event → List ℕ
 report_of k events = flat_map (low_section k events) (below (length k.table))
 
 -- what the step machine shows of each class after the events, in the order of the classes
 abbrev pub machine_report_of : Config → List Event → List ℕ
-machine_report_of k events = flat_map (λ c. section_of_words c (machine k events)) (below (length k.table))
+machine_report_of k events = flat_map (λ c. section c (machine k events)) (below (length k.table))
 
 -- the image of volume v that is told by a machine's words
 abbrev pub image_in : Config → Machine → ℕ → List ℕ

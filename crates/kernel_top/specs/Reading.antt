@@ -1,10 +1,9 @@
 -- What reading the ports does, one after the other. For private calls.
-use Rattle.std.specs.Prelude.{◌≡◌, ◌<◌, ◌≤◌, ℕ, Bool, List, ◌==◌, length, Contains}
-use Rattle.std.specs.List.{AllByRecursion, list_any}
+use Rattle.std.specs.Prelude.{◌≡◌, ◌<◌, ◌≤◌, ℕ, List, length, Contains}
+use Rattle.std.specs.List.{AllByRecursion}
 use Rattle.labels.specs.Label.{ClassEntry}
 use Rattle.host_ports.specs.Ports.{Rose, PullKeeps}
 use Rattle.config_text.specs.declared.config.Config.{Config as ConfigText}
-use Rattle.config_text.specs.declared.config.Pool.{Pool}
 use Rattle.class_model.specs.Config.{SegRecord}
 use Rattle.volume_image.specs.Valid.{IsVolume}
 use Rattle.volume_image.specs.Volumes.{Spells as SpellsVolume, IsFault as IsVolumeFault}
@@ -49,10 +48,6 @@ VolumeFails table port before after (HostFault (Read p)) = (p ≡ port) × PullK
 VolumeFails table port before after (Refused (TooLong p)) = (p ≡ port) × PullKeeps port before after × IfTold (before port).left (λ bytes. limit port < length bytes)
 VolumeFails table port before after (Refused (Volume p offset code)) = (p ≡ port) × IsNoVolume table port before after offset code
 VolumeFails table port before after _ = ⊥
-
--- a pool names the volume
-abbrev pub is_named : ConfigText → ℕ → Bool
-is_named k n = list_any (λ (p : Pool). p.volume == n) k.pools
 
 -- the volumes that the configuration names, below n, were read from their ports
 pub record VolumesRead (n : ℕ) (k : ConfigText) (before after : Ports) (vs : Volumes) : Type 0 where

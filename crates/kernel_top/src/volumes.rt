@@ -5,7 +5,7 @@ ghost use Rattle.config_text.specs.Valid.{IsValid};
 ghost use Rattle.loader.specs.Configuration.{configuration};
 ghost use Rattle.kernel_top.specs.Headline.{image_in};
 ghost use Rattle.kernel_top.specs.Outcome.{ImagesPushed, ImageTorn};
-ghost use Rattle.kernel_top.specs.Reading.{is_named, VolumeReads, VolumeFails, VolumesRead, VolumesFail};
+ghost use Rattle.kernel_top.specs.Reading.{VolumeReads, VolumeFails, VolumesRead, VolumesFail};
 ghost use Rattle.machine.specs.Banks.{machine_of};
 ghost use Rattle.volume_image.specs.Images.{IsMadeFor};
 
@@ -14,7 +14,7 @@ use crate::status::{Refusal, Status};
 use config_text::Config;
 use host_ports::{Host, push_whole};
 use labels::ClassTable;
-use loader::volume_after;
+use loader::{names_volume, volume_after};
 use machine::Machine;
 use std::alloc::Global;
 use volume_image::{Image, Volume, VolumeError, read_volume};
@@ -22,17 +22,6 @@ use words_layout::PlainWords;
 
 /// The numbers of volumes, and of their ports, are below this.
 const PORTS: u8 = 5;
-
-/// Whether a class's pool names the volume.
-fn is_named(config: &Config, number: u8) -> bool
-    ensures { result ≡ is_named config.now number }
-{
-    config
-        .pools
-        .as_slice()
-        .iter()
-        .any(|pool| pool.volume == number)
-}
 
 /// The volume that the bytes of the port spell.
 fn volume_at<H: Host>(
@@ -68,7 +57,7 @@ pub fn read_volumes<H: Host>(
 {
     let mut volumes = Vec::new(alloc);
     for port in 1..PORTS {
-        if is_named(config, port) {
+        if names_volume(config, port) {
             let volume = match volume_at(alloc, host, &config.table, port) {
                 Ok(volume) => volume,
                 Err(status) => return Err(status),
@@ -97,7 +86,7 @@ pub fn push_volumes<H: Host>(
     ensures torn { IfErr result (λ port. ImageTorn port config.now (image_in (configuration config.now []) (machine_of machine.now)) (H.ports host.old) (H.ports host.new)) }
 {
     for port in 1..PORTS {
-        if is_named(config, port) {
+        if names_volume(config, port) {
             volume_after(machine, config, port, image);
             match push_whole(host, port, image.bytes()) {
                 Ok(()) => {}

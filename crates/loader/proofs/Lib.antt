@@ -14,7 +14,7 @@ pub mod Searching
 pub mod FirstOfAll
 pub mod Records
 pub mod Storable
-pub mod TwoVolumes
+pub mod NamedVolumes
 pub mod Modelled
 pub mod FirstAnswers
 pub mod AfterCells

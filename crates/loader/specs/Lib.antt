@@ -4,6 +4,5 @@ pub mod Loading
 pub mod Records
 pub mod Refusals
 pub mod Stores
-pub mod Tested
 pub mod Building
 pub mod After

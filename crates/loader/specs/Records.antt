@@ -30,6 +30,10 @@ numbers_of vs = map (λ v. v.0) vs
 abbrev pub named_by : ConfigText → List ℕ
 named_by k = map (λ (p : PoolText). p.volume) k.pools
 
+-- a pool names the volume
+abbrev pub names_volume : ConfigText → ℕ → Bool
+names_volume k n = list_any (λ (p : PoolText). p.volume == n) k.pools
+
 -- each number is above the one before it, and the first above this one
 abbrev pub Ascend : ℕ → List ℕ → Type 0
 Ascend before [] = Unit {0}

@@ -3,13 +3,12 @@
 
 mod after;
 mod after_laws;
-#[cfg(test)]
-mod after_tests;
 mod cells;
 mod judging;
 mod laws;
 mod loading;
 mod model;
+mod naming;
 mod opening;
 mod origins;
 mod processors;
@@ -17,8 +16,6 @@ mod record_tests;
 mod seeing;
 mod shared;
 mod storing;
-#[cfg(test)]
-mod tests;
 
 pub use after::volume_after;
 pub use after_laws::after_law;
@@ -26,6 +23,5 @@ pub use judging::{RecordFault, first_fault};
 pub use laws::{valid_law, volumes_law};
 pub use loading::{LoadError, load_state, load_state_low};
 pub use model::model_state;
+pub use naming::names_volume;
 pub use opening::opening_machine;
-pub use seeing::records_seen;
-pub use shared::shared_seen;

@@ -1,6 +1,5 @@
 use Rattle.std.proofs.Common.{◌≡◌, ◌&&◌, true, not, [], ◌∷◌, ◌++◌, sym, subst, ap, ◌∙◌}
-use Rattle.loader.specs.Records.{AreVolumes, Volumes}
-use Rattle.loader.specs.Tested.{names_volume}
+use Rattle.loader.specs.Records.{AreVolumes, Volumes, names_volume}
 use Rattle.both_machines.proofs.OneVolume.{one_volume}
 use Rattle.both_machines.proofs.loaded.alone.Goals as goal
 

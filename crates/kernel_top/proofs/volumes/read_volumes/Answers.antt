@@ -1,8 +1,9 @@
 use Rattle.std.proofs.Common.{◌∷◌, ◌++◌, ◌≡◌, ◌≤◌, ◌+◌, ◌∙◌, [], sym, ap, subst, arith}
 use Rattle.loader.specs.Records.{Volumes}
 use Rattle.kernel_top.specs.Reading.{VolumesRead}
-use Rattle.kernel_top.proofs.Reading.{named_yes, named_no, read_none, read_skip, read_more}
-use Rattle.kernel_top.proofs.volumes.read_volumes.Goals.{then-is_named+in-Ok+in-Ok-push, else-is_named}
+use Rattle.loader.proofs.NamedVolumes.{named_yes, named_no}
+use Rattle.kernel_top.proofs.Reading.{read_none, read_skip, read_more}
+use Rattle.kernel_top.proofs.volumes.read_volumes.Goals.{then-names_volume+in-Ok+in-Ok-push, else-names_volume}
 use Rattle.kernel_top.proofs.volumes.read_volumes.Goals as goal
 
 pub loop-port-init : goal.loop-port-init
@@ -14,7 +15,7 @@ returns-in-Err-clause-fault g c = (
   record {
     some = c.loop-port.invariant.1;
     most = omega (arith, c.loop-port-test.true);
-    named = named_yes c.args.config.now _ _ c.is_named.ensures c.if-is_named.true;
+    named = named_yes c.args.config.now _ _ c.names_volume.ensures c.if-names_volume.true;
     middle = _;
     volumes = _;
     read = c.loop-port.invariant.0;
@@ -28,7 +29,7 @@ returns-in-Err-push-clause-fault g c = (
   record {
     some = c.loop-port.invariant.1;
     most = omega (arith, c.loop-port-test.true);
-    named = named_yes c.args.config.now _ _ c.is_named.ensures c.if-is_named.true;
+    named = named_yes c.args.config.now _ _ c.names_volume.ensures c.if-names_volume.true;
     middle = _;
     volumes = _;
     read = c.loop-port.invariant.0;
@@ -38,15 +39,15 @@ returns-in-Err-push-clause-fault g c = (
 
 pub loop-port-preserved : goal.loop-port-preserved
 loop-port-preserved g c =
-    let Done : Volumes → Type 0 = λ (vs : Volumes). VolumesRead (c.loop-port.port + 1) c.args.config.now (g.H.Host.ports c.args.host.now) (g.H.Host.ports c.if-is_named.host) vs × (1 ≤ c.loop-port.port + 1) in
-    elim c.if-is_named.branch [
-      | then-is_named+in-Ok+in-Ok-push w ↦ (let vs : Volumes = c.loop-port.volumes.items ++ (c.loop-port.port, w.in-Ok.volume) ∷ [] in
+    let Done : Volumes → Type 0 = λ (vs : Volumes). VolumesRead (c.loop-port.port + 1) c.args.config.now (g.H.Host.ports c.args.host.now) (g.H.Host.ports c.if-names_volume.host) vs × (1 ≤ c.loop-port.port + 1) in
+    elim c.if-names_volume.branch [
+      | then-names_volume+in-Ok+in-Ok-push w ↦ (let vs : Volumes = c.loop-port.volumes.items ++ (c.loop-port.port, w.in-Ok.volume) ∷ [] in
           subst Done (sym (ap (λ v. v.items) w.volumes-is ∙ w.in-Ok-push.ensures.items))
           (subst (λ h. VolumesRead (c.loop-port.port + 1) c.args.config.now (g.H.Host.ports c.args.host.now) (g.H.Host.ports h) vs × (1 ≤ c.loop-port.port + 1)) (sym w.host-is)
-          (read_more c.loop-port.port c.args.config.now _ _ _ c.loop-port.volumes.items w.in-Ok.volume c.loop-port.invariant.1 c.loop-port.invariant.0 (named_yes c.args.config.now _ _ c.is_named.ensures w.if-is_named.true) w.in-Ok.ensures.volume, omega arith)))
-      | else-is_named w ↦ subst Done (sym (ap (λ v. v.items) w.volumes-is))
+          (read_more c.loop-port.port c.args.config.now _ _ _ c.loop-port.volumes.items w.in-Ok.volume c.loop-port.invariant.1 c.loop-port.invariant.0 (named_yes c.args.config.now _ _ c.names_volume.ensures w.if-names_volume.true) w.in-Ok.ensures.volume, omega arith)))
+      | else-names_volume w ↦ subst Done (sym (ap (λ v. v.items) w.volumes-is))
           (subst (λ h. VolumesRead (c.loop-port.port + 1) c.args.config.now (g.H.Host.ports c.args.host.now) (g.H.Host.ports h) c.loop-port.volumes.items × (1 ≤ c.loop-port.port + 1)) (sym w.host-is)
-          (read_skip c.loop-port.port c.args.config.now _ _ c.loop-port.volumes.items c.loop-port.invariant.0 (named_no c.args.config.now _ _ c.is_named.ensures w.if-is_named.false), omega arith))
+          (read_skip c.loop-port.port c.args.config.now _ _ c.loop-port.volumes.items c.loop-port.invariant.0 (named_no c.args.config.now _ _ c.names_volume.ensures w.if-names_volume.false), omega arith))
     ]
 
 pub returns-clause-volumes : goal.returns-clause-volumes

@@ -1,12 +1,11 @@
-//! A configuration without records on two processors, and one of three classes with two volumes.
+//! What the loader makes of a configuration without records on two processors, and of one of three classes with two volumes.
 
-ghost use Rattle.std.specs.Prelude.{◌≡◌, IfOk};
+ghost use Rattle.std.specs.Prelude.{◌≡◌, ◌&&◌, not, IfOk};
 ghost use Rattle.volume_image.specs.Valid.{IsVolume};
-ghost use Rattle.loader.specs.Records.{AreVolumes};
-ghost use Rattle.loader.specs.Tested.{names_volume, names_two};
+ghost use Rattle.loader.specs.Records.{AreVolumes, names_volume};
 
-use crate::{LoadError, load_state, load_state_low, opening_machine};
 use config_text::{Config, read_config};
+use loader::{LoadError, load_state, load_state_low, names_volume, opening_machine};
 use machine::Machine;
 use std::alloc::Global;
 use std::test::Fail;
@@ -119,22 +118,14 @@ fn volume_of(alloc: Global, config: &Config, lines: [Line; 3]) -> Result<Volume,
     }
 }
 
-/// Whether a pool names the volume.
-fn names(config: &Config, number: u8) -> bool
-    ensures { result ≡ names_volume config.now number }
-{
-    config
-        .pools
-        .as_slice()
-        .iter()
-        .any(|pool| pool.volume == number)
-}
-
 /// Whether the pools name just the volumes 1 and 2.
 fn has_two(config: &Config) -> bool
-    ensures { result ≡ names_two config.now }
+    ensures { result ≡ (names_volume config.now 1 && names_volume config.now 2 && not (names_volume config.now 3) && not (names_volume config.now 4)) }
 {
-    names(config, 1) && names(config, 2) && !names(config, 3) && !names(config, 4)
+    names_volume(config, 1)
+        && names_volume(config, 2)
+        && !names_volume(config, 3)
+        && !names_volume(config, 4)
 }
 
 /// Both volumes, where the configuration has just these.

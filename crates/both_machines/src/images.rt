@@ -1,11 +1,10 @@
 //! The volumes of a machine whose words are put there one by one, each byte written out.
 
-ghost use Rattle.std.specs.Prelude.{◌≡◌, ◌≤◌, length, IfOk};
+ghost use Rattle.std.specs.Prelude.{◌≡◌, length, IfOk};
 ghost use Rattle.config_text.specs.Valid.{IsValid};
-ghost use Rattle.volume_image.specs.Images.{IsMadeFor};
 
-use crate::{opening_machine, volume_after};
 use config_text::{Config, read_config};
+use loader::{opening_machine, volume_after};
 use machine::{Machine, MachineParts};
 use std::alloc::Global;
 use std::test::Fail;
