@@ -10,9 +10,7 @@ use machine::Machine;
 use std::alloc::Global;
 use std::test::Fail;
 use volume_image::{Volume, read_volume};
-use words_layout::{
-    Addr, PlainWords, SegId, entry_addr, home_addr, page_tenant_addr, page_word_addr, serial_addr,
-};
+use words_layout::PlainWords;
 
 /// The high class has two processes on processor 0 and one on processor 1; the low class has one on processor 1.
 const TEXT: &str =
@@ -53,6 +51,35 @@ const FAULTS: [(u8, usize, Line, (u8, u16, u8)); 8] = [
     (2, 1, (1, 0, 2, 0, 5, 7, Some(32)), (2, 1, 5)),
     (2, 1, (0, 7, 1, 0, 0, 4, None), (2, 1, 1)),
     (2, 0, (0, 2, 2, 0, 0, 1, None), (2, 0, 2)),
+];
+
+/// A word by its class and its place among those of the class, with its value among all words and among what is left of them
+/// for the middle class. The next serial stands at 4, the home of segment u at 5 + 15 u and its entries from 12 + 15 u on, the
+/// tenant of page g at 16,405 + 65 g and its words from 16,406 + 65 g on.
+const EXPECTED: [(u32, u32, u64, u64); 20] = [
+    (0, 4, 7, 7),
+    (1, 4, 1, 1),
+    (2, 4, 1, 0),
+    // Entries of the root, of (0, 1), of (0, 5) and of (1, 0).
+    (0, 12, 0x0102_0654_0001, 0x0102_0654_0001),
+    (0, 12 + 1, 0x0202_0654_0101, 0x0202_0654_0101),
+    (0, 12 + 2, 0x0602_0654_0201, 0x0602_0654_0201),
+    (0, 12 + 3, 0, 0),
+    (0, 12 + 15 + 3, 0x0502_0654_0101, 0x0502_0654_0101),
+    (1, 12 + 15 * 5 + 7, 0x0002_0654_0201, 0x0002_0654_0201),
+    (2, 12 + 15 * 64, 0x0002_0654_0201, 0),
+    // Homes of (0, 1), (0, 2), (0, 5), (0, 6) and (1, 0).
+    (0, 5 + 15, 0x0201_0001, 0x0201_0001),
+    (1, 5 + 15 * 2, 0x0201_0001, 0x0201_0001),
+    (1, 5 + 15 * 5, 0x0202_0001, 0x0202_0001),
+    (2, 5 + 15 * 6, 0x0201_0001, 0),
+    (2, 5 + 15 * 64, 0, 0),
+    // Pages.
+    (0, 16_405, 2, 2),
+    (1, 16_405 + 65, 6, 6),
+    (1, 16_406 + 65 + 1, 23, 23),
+    (2, 16_405, 7, 0),
+    (2, 16_406, 30, 0),
 ];
 
 /// The script and the ring of the process of a slot.
@@ -238,56 +265,6 @@ fn faults_of_records(rt: HostRuntime) -> Result<(), Fail> {
     Ok(())
 }
 
-/// Words of the three classes: all of them, and what is left of them for the middle class.
-fn expected() -> [(Addr, u64, u64); 20] {
-    let root = SegId {
-        mentor: 0,
-        serial: 0,
-    };
-    let low = SegId {
-        mentor: 0,
-        serial: 1,
-    };
-    let mid = SegId {
-        mentor: 0,
-        serial: 2,
-    };
-    let inner = SegId {
-        mentor: 0,
-        serial: 5,
-    };
-    let high = SegId {
-        mentor: 0,
-        serial: 6,
-    };
-    let top = SegId {
-        mentor: 1,
-        serial: 0,
-    };
-    [
-        (serial_addr(0), 7, 7),
-        (serial_addr(1), 1, 1),
-        (serial_addr(2), 1, 0),
-        (entry_addr(0, root, 0), 0x0102_0654_0001, 0x0102_0654_0001),
-        (entry_addr(0, root, 1), 0x0202_0654_0101, 0x0202_0654_0101),
-        (entry_addr(0, root, 2), 0x0602_0654_0201, 0x0602_0654_0201),
-        (entry_addr(0, low, 3), 0x0502_0654_0101, 0x0502_0654_0101),
-        (entry_addr(1, inner, 7), 0x0002_0654_0201, 0x0002_0654_0201),
-        (entry_addr(2, top, 0), 0x0002_0654_0201, 0),
-        (entry_addr(0, root, 3), 0, 0),
-        (home_addr(0, low), 0x0201_0001, 0x0201_0001),
-        (home_addr(1, mid), 0x0201_0001, 0x0201_0001),
-        (home_addr(1, inner), 0x0202_0001, 0x0202_0001),
-        (home_addr(2, high), 0x0201_0001, 0),
-        (home_addr(2, top), 0, 0),
-        (page_tenant_addr(0, 0), 2, 2),
-        (page_tenant_addr(1, 1), 6, 6),
-        (page_tenant_addr(2, 0), 7, 0),
-        (page_word_addr(1, 1, 1), 23, 23),
-        (page_word_addr(2, 0, 0), 30, 0),
-    ]
-}
-
 #[test]
 fn records_in_their_places(rt: HostRuntime) -> Result<(), Fail> {
     let Ok(whole) = load(rt.alloc(), FIRST, SECOND, None)? else {
@@ -296,8 +273,8 @@ fn records_in_their_places(rt: HostRuntime) -> Result<(), Fail> {
     let Ok(part) = load(rt.alloc(), FIRST, SECOND, Some(1))? else {
         return Err(Fail::from("a part"));
     };
-    for (addr, all, low) in expected() {
-        let place = addr.0 as usize;
+    for (class, place, all, low) in EXPECTED {
+        let place = 34_869 * class as usize + place as usize;
         assert_eq!(rt; whole.words().as_slice().get(place), Some(&all), "{place}");
         assert_eq!(rt; part.words().as_slice().get(place), Some(&low), "{place}");
     }
