@@ -1,5 +1,5 @@
 -- What an answer shows, clause by clause.
-use Rattle.std.proofs.Common.{◌≡◌, ℕ, ◌<◌, inl, inr, List, [], ◌∷◌, length, refl, sym, ap, subst, ◌∙◌}
+use Rattle.std.proofs.Common.{◌≡◌, ℕ, ◌<◌, inl, inr, List, [], ◌∷◌, refl, sym, ap, subst, ◌∙◌, arith}
 use Rattle.std.specs.Prelude.{codes}
 use Rattle.host_ports.specs.Ports.{Port, Told, Rose, SameBut, IsPrefixTaken, with_bytes}
 use Rattle.config_text.specs.declared.config.Config.{Config as ConfigText}
@@ -11,13 +11,13 @@ use Rattle.kernel_top.specs.declared.status.Refusal.TheVariants.{Config, Volume,
 use Rattle.kernel_top.specs.declared.status.PortFault.TheVariants.{Read, Write}
 use Rattle.kernel_top.specs.declared.command.Command.{Command}
 use Rattle.kernel_top.specs.declared.command.Command.TheVariants.{Sim, Show}
-use Rattle.kernel_top.specs.Input.{Ports, IfTold, NothingPushed, IsReadWhole, OfConfiguration, limit}
+use Rattle.kernel_top.specs.Input.{Ports, NothingPushed, IsTooLong, IsReadWhole, OfConfiguration}
 use Rattle.kernel_top.specs.Reading.{ReadsIn, ReadFails, VolumeFails}
 use Rattle.kernel_top.specs.Outcome.{ShowsAs, CarriesOn, IsNoConfig, Outcome}
-use Rattle.kernel_top.specs.Answer.{Asks, UsageShows, CauseShows, RunCause, ShowCause, IfRan, Reported, MachineReported, EndShows, VolumesShow, Shown, PrefixShows, SilenceShows, OthersShow}
+use Rattle.kernel_top.specs.Answer.{Asks, UsageShows, CauseShows, RunCause, ShowCause, IfRan, Reported, MachineReported, EndShows, VolumesShow, Shown, PrefixShows, SilenceShows, UnreadShows, OthersShow}
 use Rattle.kernel_top.proofs.Reading.{silent_pull, silent_same, told_of, whole_as}
-use Rattle.kernel_top.proofs.Failing.{fail_others, fail_cause, fail_silence}
-use Rattle.kernel_top.proofs.Ran.{ran_headline, ran_report, ran_ended, ran_volumes, ran_cause, ran_prefix, ran_silence, ran_others}
+use Rattle.kernel_top.proofs.Failing.{fail_others, fail_cause, fail_silence, fail_unread}
+use Rattle.kernel_top.proofs.Ran.{ran_headline, ran_report, ran_ended, ran_volumes, ran_cause, ran_prefix, ran_silence, ran_unread, ran_others}
 
 -- ---- answers that come before a run
 
@@ -78,7 +78,7 @@ reading_cause Sim before after (HostFault (Read p)) f =
     (inl f.0, subst (λ q. Rose (before q).pulls (after q).pulls) (sym f.0) f.2)
 reading_cause Show before after (HostFault (Read p)) f = (f.0, f.2)
 reading_cause Sim before after (Refused (TooLong p)) f =
-    (inl f.0, subst (λ q. IfTold (before q).left (λ bytes. limit q < length bytes)) (sym f.0) f.2)
+    (inl f.0, subst (λ q. IsTooLong q before after) (sym f.0) f.2)
 reading_cause Show before after (Refused (TooLong p)) f = (f.0, f.2)
 reading_cause command before after _ f = absurd f
 
@@ -113,6 +113,17 @@ spelling_others : (before after : Ports) (s : Status) → IsNoConfig before afte
 spelling_others before after NoMemory f = f.1.keeps.others
 spelling_others before after (Refused (Config line code)) f = f.1.keeps.others
 spelling_others before after _ f = absurd f
+
+reading_unread : (before after : Ports) (s : Status) → ReadFails 0 before after s → UnreadShows before after s
+reading_unread before after NoMemory f = tt
+reading_unread before after (HostFault (Read q)) f = subst (λ r. (p : ℕ) → r < p → after p ≡ before p) (sym f.0) (λ p lt. f.1.others p (λ e. absurd (omega (arith, e, lt))))
+reading_unread before after (Refused (TooLong q)) f = subst (λ r. (p : ℕ) → r < p → after p ≡ before p) (sym f.0) (λ p lt. f.1.others p (λ e. absurd (omega (arith, e, lt))))
+reading_unread before after _ f = absurd f
+
+spelling_unread : (before after : Ports) (s : Status) → IsNoConfig before after s → UnreadShows before after s
+spelling_unread before after NoMemory f = tt
+spelling_unread before after (Refused (Config line code)) f = λ p lt. f.1.keeps.others p (λ e. absurd (omega (arith, e, lt)))
+spelling_unread before after _ f = absurd f
 
 same_but : (command : Command) (before after : Ports) → SameBut 0 before after → OthersShow command before after
 same_but Sim before after f = λ p some. inl (f p some)
@@ -177,6 +188,12 @@ module _ (before after : Ports) (s : Status) where
     | inr r ↦ ran_others before on.middle r.middle after on.text on.config r.volumes on.read on.spelled r.read s r.runs
   ]
 
+  run_unread : CarriesOn Sim before after s → UnreadShows before after s
+  run_unread on = elim on.runs [
+    | inl f ↦ fail_unread before on.middle after on.text on.config on.read on.spelled f.0 s f.1
+    | inr r ↦ ran_unread on.config r.volumes before r.middle after s r.runs
+  ]
+
 -- ---- showing
 
 module _ (before middle after : Ports) (text : List ℕ) (k : ConfigText) (zeroth : ReadsIn 0 before middle text) (spelled : Spells text k) where
@@ -209,6 +226,12 @@ module _ (before middle after : Ports) (text : List ℕ) (k : ConfigText) (zerot
   show_silence NoMemory o = silent_same before middle after (silent_pull 0 before middle zeroth.keeps) o
   show_silence _ o = absurd o
 
+  show_unread : (s : Status) → ShowsAs k middle after s → UnreadShows before after s
+  show_unread Done o = tt
+  show_unread (HostFault (Write port)) o = tt
+  show_unread NoMemory o = tt
+  show_unread _ o = absurd o
+
   show_others : (s : Status) → ShowsAs k middle after s → SameBut 0 before after
   show_others Done o = λ p some. o.keeps.others p some ∙ zeroth.keeps.others p some
   show_others (HostFault (Write port)) o = λ p some. o.1.keeps.others p some ∙ zeroth.keeps.others p some
@@ -234,6 +257,10 @@ on_silence : (command : Command) (before after : Ports) (s : Status) → Carries
 on_silence Sim before after s on = run_silence before after s on
 on_silence Show before after s on = show_silence before on.middle after on.text on.config on.read on.spelled s on.runs
 
+on_unread : (command : Command) (before after : Ports) (s : Status) → CarriesOn command before after s → UnreadShows before after s
+on_unread Sim before after s on = run_unread before after s on
+on_unread Show before after s on = show_unread before on.middle after on.text on.config on.read on.spelled s on.runs
+
 on_others : (command : Command) (before after : Ports) (s : Status) → CarriesOn command before after s → OthersShow command before after
 on_others Sim before after s on = run_others before after s on
 on_others Show before after s on = show_others before on.middle after on.text on.config on.read on.spelled s on.runs
@@ -253,6 +280,11 @@ module _ (command : Command) (before after : Ports) (s : Status) where
   silence (inl f) = reading_silence before after s f
   silence (inr (inl f)) = spelling_silence before after s f
   silence (inr (inr on)) = on_silence command before after s on
+
+  pub unread : Outcome command before after s → UnreadShows before after s
+  unread (inl f) = reading_unread before after s f
+  unread (inr (inl f)) = spelling_unread before after s f
+  unread (inr (inr on)) = on_unread command before after s on
 
   pub others : Outcome command before after s → OthersShow command before after
   others (inl f) = same_but command before after (reading_others before after s f)

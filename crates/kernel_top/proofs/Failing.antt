@@ -1,5 +1,5 @@
 -- What the answer shows where a volume wasn't read.
-use Rattle.std.proofs.Common.{◌≡◌, ℕ, ◌<◌, ◌⊎◌, inl, inr, List, [], ◌∷◌, length, refl, sym, ap, subst, ◌∙◌, arith}
+use Rattle.std.proofs.Common.{◌≡◌, ℕ, ◌+◌, ◌<◌, ◌⊎◌, inl, inr, List, [], ◌∷◌, Some, length, drop, refl, sym, ap, subst, ◌∙◌, arith}
 use Rattle.std.proofs.lemmas.Bool.{cases_eq}
 use Rattle.std.specs.Prelude.{Contains}
 use Rattle.host_ports.specs.Ports.{Port, Rose, PullKeeps}
@@ -12,9 +12,9 @@ use Rattle.kernel_top.specs.declared.status.Refusal.TheVariants.{Volume, TooLong
 use Rattle.kernel_top.specs.declared.status.PortFault.TheVariants.{Read}
 use Rattle.loader.specs.Records.{named_by}
 use Rattle.kernel_top.specs.declared.command.Command.TheVariants.{Sim}
-use Rattle.kernel_top.specs.Input.{Ports, IfTold, NothingPushed, IsReadWhole, IsNext, limit}
+use Rattle.kernel_top.specs.Input.{Ports, IfTold, NothingPushed, IsTooLong, IsReadWhole, IsNext, limit}
 use Rattle.kernel_top.specs.Reading.{ReadsIn, VolumeFails, FailsAt}
-use Rattle.kernel_top.specs.Answer.{RunCause, OthersShow, SilenceShows}
+use Rattle.kernel_top.specs.Answer.{RunCause, OthersShow, SilenceShows, UnreadShows}
 use Rattle.loader.proofs.NamedVolumes.{contains_behind, contains_cases}
 use Rattle.kernel_top.proofs.Reading.{silent_pull, silent_on, told_as, told_of, whole_as, reads_below}
 
@@ -61,6 +61,12 @@ module _ (before middle after : Ports) (text : List ℕ) (k : ConfigText) (zerot
   silent : NothingPushed before after
   silent = silent_on before now after (silent_on before middle now (silent_pull 0 before middle zeroth.keeps) f.read.silent) (silent_pull n now after keeps)
 
+  -- a port behind it is as it was
+  behind : (p : ℕ) → n < p → after p ≡ before p
+  behind p lt =
+      keeps.others p (λ e. absurd (omega (arith, e, lt))) ∙
+      (f.read.others p (λ c. (let less = (f.read.numbers.named p c).0 in absurd (omega (arith, less, lt)))) ∙ zeroth.keeps.others p (λ e. absurd (omega (arith, e, lt))))
+
   pub fail_others : OthersShow Sim before after
   fail_others p some = by (contains_or_not (named_by k) p)
     where
@@ -81,9 +87,9 @@ module _ (before middle after : Ports) (text : List ℕ) (k : ConfigText) (zerot
         subst (λ (x : Port). Rose x.pulls (after n).pulls) (port_same before middle after text k zeroth spelled (HostFault (Read p)) n f) f.fails.2,
       )
   fail_cause (Refused (TooLong p)) f =
-      subst (λ q. ((q ≡ 0) ⊎ IsNext q before after (λ c. Unit {0})) × IfTold (before q).left (λ bytes. limit q < length bytes)) (sym f.fails.0) (
+      subst (λ q. ((q ≡ 0) ⊎ IsNext q before after (λ c. Unit {0})) × IsTooLong q before after) (sym f.fails.0) (
         inr (next before middle after text k zeroth spelled (Refused (TooLong p)) n f (λ c. Unit {0}) tt),
-        subst (λ (x : Port). IfTold x.left (λ bytes. limit n < length bytes)) (port_same before middle after text k zeroth spelled (Refused (TooLong p)) n f) f.fails.2,
+        subst (λ (x : Port). IfTold x.left (λ bytes. (limit n < length bytes) × ((after n).left ≡ Some (drop (limit n + 1) bytes)))) (port_same before middle after text k zeroth spelled (Refused (TooLong p)) n f) f.fails.2,
       )
   fail_cause (Refused (Volume p offset code)) f =
       let same = port_same before middle after text k zeroth spelled (Refused (Volume p offset code)) n f in
@@ -102,3 +108,11 @@ module _ (before middle after : Ports) (text : List ℕ) (k : ConfigText) (zerot
   fail_silence (Refused (TooLong p)) f = silent before middle after text k zeroth spelled (Refused (TooLong p)) n f
   fail_silence (Refused (Volume p offset code)) f = silent before middle after text k zeroth spelled (Refused (Volume p offset code)) n f
   fail_silence _ f = absurd f.fails
+
+  pub fail_unread : (s : Status) → Fails s → UnreadShows before after s
+  fail_unread NoMemory f = tt
+  fail_unread (HostFault (Read p)) f = subst (λ q. (r : ℕ) → q < r → after r ≡ before r) (sym f.fails.0) (behind before middle after text k zeroth spelled (HostFault (Read p)) n f)
+  fail_unread (Refused (TooLong p)) f = subst (λ q. (r : ℕ) → q < r → after r ≡ before r) (sym f.fails.0) (behind before middle after text k zeroth spelled (Refused (TooLong p)) n f)
+  fail_unread (Refused (Volume p offset code)) f =
+      subst (λ q. (r : ℕ) → q < r → after r ≡ before r) (sym f.fails.0) (behind before middle after text k zeroth spelled (Refused (Volume p offset code)) n f)
+  fail_unread _ f = absurd f.fails

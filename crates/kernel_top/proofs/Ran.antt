@@ -13,10 +13,10 @@ use Rattle.loader.specs.Records.{Volumes, Loads, named_by}
 use Rattle.schedule.specs.Schedule.{events_of}
 use Rattle.report.specs.Printing.{Pushed, Torn}
 use Rattle.kernel_top.specs.Headline.{image_of, machine_report_of, live_after}
-use Rattle.kernel_top.specs.Input.{Ports, IfTold, NothingPushed, OfInput, IsInput, ReadsBelow, InputRead, loaded}
+use Rattle.kernel_top.specs.Input.{Ports, IfTold, IsUnpushed, NothingPushed, OfInput, IsInput, ReadsBelow, InputRead, loaded}
 use Rattle.kernel_top.specs.Reading.{ReadsIn, VolumesRead}
 use Rattle.kernel_top.specs.Outcome.{ImageTorn, AllPushed, SomeTorn, RunEnds, RunsLoaded}
-use Rattle.kernel_top.specs.Answer.{due, report_for, IsDue, IfRan, Reported, MachineReported, EndShows, VolumesShow, RunCause, BreaksAt, PrefixShows, SilenceShows, OthersShow}
+use Rattle.kernel_top.specs.Answer.{due, report_for, IsDue, IfRan, Reported, MachineReported, EndShows, VolumesShow, RunCause, BreaksAt, PrefixShows, SilenceShows, UnreadShows, OthersShow}
 use Rattle.kernel_top.proofs.Reading.{silent_pull, silent_on, silent_same, told_of, all_left, are_volumes, reads_below}
 use Rattle.kernel_top.proofs.Failing.{contains_or_not}
 
@@ -50,7 +50,7 @@ keeps_on k before middle after f g = record { left = λ p. g.left p ∙ f.left p
 
 torn_keeps : (n : ℕ) (k : ConfigText) (vs : Volumes) (before after : Ports) → SomeTorn n k vs before after → Keeps k before after
 torn_keeps n k vs before after (inl (z, f)) = record { left = torn_left before after (report_for k vs) f; others = λ p some none. f.keeps.others p some }
-torn_keeps n k vs before after (inr (middle, f, g)) = keeps_on k before middle after (report_keeps k before middle (report_for k vs) f) (record {
+torn_keeps n k vs before after (inr (middle, f, g, e)) = keeps_on k before middle after (report_keeps k before middle (report_for k vs) f) (record {
   left = image_left n k (due k vs) middle after g;
   others = λ p some none. g.keeps.others p (λ e. none (subst (Contains (named_by k)) (sym e) g.named)) ∙ g.pushed.others p (λ h. none h.2);
 })
@@ -106,6 +106,10 @@ module _ (before middle now after : Ports) (text : List ℕ) (k : ConfigText) (v
   image_taken f p some lt named = taken_in_all p (due k vs p)
       (f.images.taken p some lt named ∙ ap (λ (x : Port). with_bytes x.taken (due k vs p)) (f.report.keeps.others p (λ e. absurd (omega (arith, e, some)))))
 
+  -- a port that is as it was when the input was read
+  unpushed : (p : ℕ) → after p ≡ now p → IsUnpushed (before p) (after p)
+  unpushed p same = (ap (λ (x : Port). x.taken) same ∙ silent.taken p, ap (λ (x : Port). x.pushes) same ∙ silent.pushes p)
+
   pub ran_headline : (s : Status) → RunsLoaded k vs now after s → IfRan s (Reported before after)
   ran_headline Done o = of_input Done o o.1.loads (λ c ws. (after 0).taken ≡ with_bytes (before 0).taken (report_for c ws)) (report_taken o.0)
   ran_headline Unfinished o = of_input Unfinished o o.1.loads (λ c ws. (after 0).taken ≡ with_bytes (before 0).taken (report_for c ws)) (taken_in_all 0 report o.0.taken)
@@ -128,12 +132,12 @@ module _ (before middle now after : Ports) (text : List ℕ) (k : ConfigText) (v
   ran_volumes Done o = of_input Done o o.1.loads
       (λ c ws. (p : ℕ) → 1 ≤ p → p < 5 → Contains (named_by c) p → (after p).taken ≡ with_bytes (before p).taken (image_of (loaded c ws) (events_of c) p))
       (λ p some lt named. image_taken o.0 p some lt named ∙ ap (with_bytes (before p).taken) (due_image p some))
-  ran_volumes Unfinished o = λ p some. ap (λ (x : Port). x.taken) (o.0.keeps.others p (λ e. absurd (omega (arith, e, some)))) ∙ silent.taken p
+  ran_volumes Unfinished o = λ p some. unpushed p (o.0.keeps.others p (λ e. absurd (omega (arith, e, some))))
   ran_volumes _ o = tt
 
   torn_rose : (port : ℕ) → SomeTorn port k vs now after → (port < 5) × Rose (before port).pushes (after port).pushes
   torn_rose port (inl (z, f)) = subst (λ q. (q < 5) × Rose (before q).pushes (after q).pushes) (sym z) (omega arith, subst (λ m. Rose m (after 0).pushes) (silent.pushes 0) f.rose)
-  torn_rose port (inr (reported, f, g)) = (g.most, subst (λ m. Rose m (after port).pushes) (pushes_same port g.some f g) g.rose)
+  torn_rose port (inr (reported, f, g, e)) = (g.most, subst (λ m. Rose m (after port).pushes) (pushes_same port g.some f g) g.rose)
     where
       pushes_same : (port : ℕ) → 1 ≤ port → Pushed now reported report → (g : ImageTorn port k (due k vs) reported after) → (g.middle port).pushes ≡ (before port).pushes
       pushes_same port some f g =
@@ -149,7 +153,7 @@ module _ (before middle now after : Ports) (text : List ℕ) (k : ConfigText) (v
   ran_cause _ o = absurd o
 
   -- an image is torn
-  module _ (port : ℕ) (reported : Ports) (f : Pushed now reported report) (g : ImageTorn port k (due k vs) reported after) where
+  module _ (port : ℕ) (reported : Ports) (f : Pushed now reported report) (g : ImageTorn port k (due k vs) reported after) (end : RunEnds k vs false) where
     report_whole : (after 0).taken ≡ with_bytes (before 0).taken report
     report_whole = taken_in_all 0 report
         (ap (λ (x : Port). x.taken) (g.keeps.others 0 (λ e. (let some = g.some in absurd (omega (arith, e, some)))) ∙ g.pushed.others 0 (λ h. (let some = h.0 in absurd (omega arith)))) ∙ f.taken)
@@ -174,16 +178,20 @@ module _ (before middle now after : Ports) (text : List ℕ) (k : ConfigText) (v
       torn = subst (λ (t : Told). IsPrefixTaken t (after port).taken (due k vs port))
           (ap (λ (x : Port). x.taken) (g.pushed.others port (λ h. (let lt = h.1 in absurd (omega arith))) ∙ was port g.some) ∙ silent.taken port) g.torn;
       behind = λ p lt. (let some : 1 ≤ p = (let a = g.some in omega (arith, a, lt)) in
-          ap (λ (x : Port). x.taken) (g.keeps.others p (λ e. absurd (omega (arith, e, lt))) ∙ (g.pushed.others p (λ h. (let less = h.1 in absurd (omega (arith, lt)))) ∙ was p some)) ∙ silent.taken p);
+          unpushed p (g.keeps.others p (λ e. absurd (omega (arith, e, lt))) ∙ (g.pushed.others p (λ h. (let less = h.1 in absurd (omega (arith, lt)))) ∙ was p some)));
+      is_due = inr g.named;
+      ended = λ some. end.live_is;
     }
 
   breaks : (port : ℕ) → SomeTorn port k vs now after → BreaksAt port before after k vs
   breaks port (inl (z, f)) = subst (λ q. BreaksAt q before after k vs) (sym z) (record {
     whole = λ p lt h. absurd (omega (arith, lt));
     torn = subst (λ (t : Told). IsPrefixTaken t (after 0).taken report) (silent.taken 0) f.taken;
-    behind = λ p lt. ap (λ (x : Port). x.taken) (f.keeps.others p (λ e. absurd (omega (arith, e, lt)))) ∙ silent.taken p;
+    behind = λ p lt. unpushed p (f.keeps.others p (λ e. absurd (omega (arith, e, lt))));
+    is_due = inl refl;
+    ended = λ some. absurd (omega (arith, some));
   })
-  breaks port (inr (reported, f, g)) = torn_at port reported f g
+  breaks port (inr (reported, f, g, e)) = torn_at port reported f g e
 
   pub ran_prefix : (s : Status) → RunsLoaded k vs now after s → PrefixShows Sim before after s
   ran_prefix (HostFault (Write port)) o = of_input (HostFault (Write port)) o o.1 (λ c ws. BreaksAt port before after c ws) (breaks port o.0)
@@ -203,3 +211,11 @@ module _ (before middle now after : Ports) (text : List ℕ) (k : ConfigText) (v
       by : Contains (named_by k) p ⊎ (Contains (named_by k) p → ⊥) → (after p ≡ before p) ⊎ ((c : ConfigText) × IfTold (before 0).left (λ bytes. Spells bytes c) × Contains (named_by c) p)
       by (inl named) = inr (k, told_of (λ bytes. Spells bytes k) (before 0).left text zeroth.told spelled, named)
       by (inr none) = inl ((runs_keep k vs now after s o).others p some none ∙ (read.others p (λ c. none (read.numbers.named p c).1) ∙ zeroth.keeps.others p some))
+
+pub ran_unread : (k : ConfigText) (vs : Volumes) (before now after : Ports) (s : Status) → RunsLoaded k vs now after s → UnreadShows before after s
+ran_unread k vs before now after Done o = tt
+ran_unread k vs before now after Unfinished o = tt
+ran_unread k vs before now after (HostFault (Write port)) o = tt
+ran_unread k vs before now after (Refused (Load volume item code)) o = tt
+ran_unread k vs before now after NoMemory o = tt
+ran_unread k vs before now after _ o = absurd o

@@ -1,5 +1,5 @@
 -- What each answer of the top call means: by its words, by the bytes of its ports, and by the faults of its host.
-use Rattle.std.specs.Prelude.{◌≡◌, ◌≢◌, ◌<◌, ◌≤◌, ◌⊎◌, ℕ, zero, suc, true, false, List, [], ◌∷◌, length, codes, Contains}
+use Rattle.std.specs.Prelude.{◌≡◌, ◌≢◌, ◌<◌, ◌≤◌, ◌⊎◌, ℕ, zero, suc, true, false, List, [], ◌∷◌, codes, Contains}
 use Rattle.config_text.specs.declared.config.Config.{Config as ConfigText}
 use Rattle.config_text.specs.Text.{Spells, IsFault}
 use Rattle.config_text.specs.Written.{written}
@@ -14,7 +14,7 @@ use Rattle.kernel_top.specs.declared.command.Command.TheVariants.{Sim, Show}
 use Rattle.loader.specs.Records.{Volumes, named_by, IsLoadFault}
 use Rattle.schedule.specs.Schedule.{events_of}
 use Rattle.kernel_top.specs.Headline.{report_of, machine_report_of, image_of, live_after}
-use Rattle.kernel_top.specs.Input.{Ports, IfTold, limit, Untouched, NothingPushed, IsReadWhole, OfConfiguration, OfInput, loaded, ReadsBelow, InputRead, IsNext}
+use Rattle.kernel_top.specs.Input.{Ports, IfTold, Untouched, IsUnpushed, NothingPushed, IsTooLong, IsReadWhole, OfConfiguration, OfInput, loaded, ReadsBelow, InputRead, IsNext}
 
 -- ---- the words
 
@@ -67,11 +67,12 @@ EndShows before Done = OfInput before (λ k vs. live_after (loaded k vs) (events
 EndShows before Unfinished = OfInput before (λ k vs. live_after (loaded k vs) (events_of k) ≡ true)
 EndShows before _ = Unit {0}
 
--- At Done the port of each volume that the configuration names has taken its image, at Unfinished no volume's port anything.
+-- At Done the port of each volume that the configuration names has taken its image. At Unfinished nothing was pushed to a volume's
+-- port.
 abbrev pub VolumesShow : Ports → Ports → Status → Type 0
 VolumesShow before after Done =
     OfInput before (λ k vs. (p : ℕ) → 1 ≤ p → p < 5 → Contains (named_by k) p → (after p).taken ≡ with_bytes (before p).taken (image_of (loaded k vs) (events_of k) p))
-VolumesShow before after Unfinished = (p : ℕ) → 1 ≤ p → (after p).taken ≡ (before p).taken
+VolumesShow before after Unfinished = (p : ℕ) → 1 ≤ p → IsUnpushed (before p) (after p)
 VolumesShow before after _ = Unit {0}
 
 -- Port 0 has taken the text of the configuration that its bytes spell.
@@ -90,7 +91,7 @@ RunCause before after (HostFault (Write port)) = (port < 5) × Rose (before port
 -- it was this port's turn, and a pull of it failed
 RunCause before after (HostFault (Read port)) = ((port ≡ 0) ⊎ IsNext port before after (λ k. Unit {0})) × Rose (before port).pulls (after port).pulls
 -- it was this port's turn, and it has more bytes left than the limit
-RunCause before after (Refused (TooLong port)) = ((port ≡ 0) ⊎ IsNext port before after (λ k. Unit {0})) × IfTold (before port).left (λ bytes. limit port < length bytes)
+RunCause before after (Refused (TooLong port)) = ((port ≡ 0) ⊎ IsNext port before after (λ k. Unit {0})) × IsTooLong port before after
 -- port 0 was read, and its bytes spell no configuration: this is their first fault
 RunCause before after (Refused (Config line code)) = IsReadWhole 0 before after × IfTold (before 0).left (λ bytes. IsFault bytes line code)
 -- it was this port's turn, it was read, and its bytes spell no volume of the table: this is their first fault
@@ -106,7 +107,7 @@ abbrev pub ShowCause : Ports → Ports → Status → Type 0
 ShowCause before after Done = IsReadWhole 0 before after × OfConfiguration (before 0).left (λ k. Unit {0})
 ShowCause before after (HostFault (Write port)) = (port ≡ 0) × Rose (before 0).pushes (after 0).pushes × IsReadWhole 0 before after × OfConfiguration (before 0).left (λ k. Unit {0})
 ShowCause before after (HostFault (Read port)) = (port ≡ 0) × Rose (before 0).pulls (after 0).pulls
-ShowCause before after (Refused (TooLong port)) = (port ≡ 0) × IfTold (before 0).left (λ bytes. limit 0 < length bytes)
+ShowCause before after (Refused (TooLong port)) = (port ≡ 0) × IsTooLong 0 before after
 ShowCause before after (Refused (Config line code)) = IsReadWhole 0 before after × IfTold (before 0).left (λ bytes. IsFault bytes line code)
 ShowCause before after NoMemory = Unit {0}
 ShowCause before after _ = ⊥
@@ -118,11 +119,14 @@ CauseShows Show before after status = ShowCause before after status
 
 -- ---- what the ports have taken
 
--- A push to port n failed: the ports before it have taken what is due to them, it a proper prefix, and those behind it nothing.
+-- A push to port n failed, to which something was due: the ports before it have taken what is due to them, it a proper prefix,
+-- and nothing was pushed to those behind it. Where it is the port of a volume, no process is live.
 pub record BreaksAt (n : ℕ) (before after : Ports) (k : ConfigText) (vs : Volumes) : Type 0 where
   pub whole : (p : ℕ) → p < n → IsDue k p → (after p).taken ≡ with_bytes (before p).taken (due k vs p)
   pub torn : IsPrefixTaken (before n).taken (after n).taken (due k vs n)
-  pub behind : (p : ℕ) → n < p → (after p).taken ≡ (before p).taken
+  pub behind : (p : ℕ) → n < p → IsUnpushed (before p) (after p)
+  pub is_due : IsDue k n
+  pub ended : 1 ≤ n → live_after (loaded k vs) (events_of k) ≡ false
 
 -- what the ports have taken where a push failed
 abbrev pub PrefixShows : Command → Ports → Ports → Status → Type 0
@@ -136,6 +140,14 @@ SilenceShows before after Done = Unit {0}
 SilenceShows before after Unfinished = Unit {0}
 SilenceShows before after (HostFault (Write port)) = Unit {0}
 SilenceShows before after _ = NothingPushed before after
+
+-- The ports behind the one at fault weren't touched.
+abbrev pub UnreadShows : Ports → Ports → Status → Type 0
+UnreadShows before after (HostFault (Read port)) = (p : ℕ) → port < p → after p ≡ before p
+UnreadShows before after (Refused (TooLong port)) = (p : ℕ) → port < p → after p ≡ before p
+UnreadShows before after (Refused (Config line code)) = (p : ℕ) → 0 < p → after p ≡ before p
+UnreadShows before after (Refused (Volume port offset code)) = (p : ℕ) → port < p → after p ≡ before p
+UnreadShows before after _ = Unit {0}
 
 -- A port other than port 0 has changed only in a run, and only where the configuration names its volume.
 abbrev pub OthersShow : Command → Ports → Ports → Type 0

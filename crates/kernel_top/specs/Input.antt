@@ -1,6 +1,6 @@
 -- The input of a command: what the ports' bytes spell, and how far they were read. Where a sentence speaks of bytes left, it
 -- holds for a host that tells them.
-use Rattle.std.specs.Prelude.{◌≡◌, ◌<◌, ◌≤◌, ℕ, zero, suc, List, [], length, Contains, Some, None}
+use Rattle.std.specs.Prelude.{◌≡◌, ◌<◌, ◌≤◌, ◌+◌, ℕ, zero, suc, List, [], length, drop, Contains, Some, None}
 use Rattle.std.specs.List.{AllByRecursion}
 use Rattle.host_ports.specs.Ports.{Port, Told}
 use Rattle.labels.specs.Label.{ClassEntry}
@@ -33,6 +33,14 @@ Untouched before after = (p : ℕ) → after p ≡ before p
 pub record NothingPushed (before after : Ports) : Type 0 where
   pub taken : (p : ℕ) → (after p).taken ≡ (before p).taken
   pub pushes : (p : ℕ) → (after p).pushes ≡ (before p).pushes
+
+-- the port has taken no byte, and no push to it has failed
+abbrev pub IsUnpushed : Port → Port → Type 0
+IsUnpushed before after = (after.taken ≡ before.taken) × (after.pushes ≡ before.pushes)
+
+-- the port had more bytes left than the limit, and one more than the limit was read
+abbrev pub IsTooLong : ℕ → Ports → Ports → Type 0
+IsTooLong p before after = IfTold (before p).left (λ bytes. (limit p < length bytes) × ((after p).left ≡ Some (drop (limit p + 1) bytes)))
 
 -- all that the port had left was read, and it is within the limit
 abbrev pub IsReadWhole : ℕ → Ports → Ports → Type 0

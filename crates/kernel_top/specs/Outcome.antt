@@ -49,10 +49,10 @@ pub record AllPushed (k : ConfigText) (vs : Volumes) (before after : Ports) : Ty
   pub report : Pushed before middle (report_for k vs)
   pub images : ImagesPushed 5 k (due k vs) middle after
 
--- a push failed: of the report, or of an image after it
+-- a push failed: of the report, or of an image after it, where no process is live
 abbrev pub SomeTorn : ℕ → ConfigText → Volumes → Ports → Ports → Type 0
 SomeTorn port k vs before after =
-    ((port ≡ 0) × Torn before after (report_for k vs)) ⊎ ((middle : Ports) × Pushed before middle (report_for k vs) × ImageTorn port k (due k vs) middle after)
+    ((port ≡ 0) × Torn before after (report_for k vs)) ⊎ ((middle : Ports) × Pushed before middle (report_for k vs) × ImageTorn port k (due k vs) middle after × RunEnds k vs false)
 
 -- what a run does with a configuration and volumes that were read
 abbrev pub RunsLoaded : ConfigText → Volumes → Ports → Ports → Status → Type 0

@@ -12,7 +12,7 @@ use Rattle.kernel_top.specs.declared.status.Status.{Status}
 use Rattle.kernel_top.specs.declared.status.Status.TheVariants.{Refused, HostFault, NoMemory}
 use Rattle.kernel_top.specs.declared.status.Refusal.TheVariants.{TooLong, Volume}
 use Rattle.kernel_top.specs.declared.status.PortFault.TheVariants.{Read}
-use Rattle.kernel_top.specs.Input.{Ports, IfTold, Untouched, NothingPushed, IsReadWhole, IsAccepted, AreNamedBelow, limit}
+use Rattle.kernel_top.specs.Input.{Ports, IfTold, Untouched, NothingPushed, IsTooLong, IsReadWhole, IsAccepted, AreNamedBelow, limit}
 
 -- the bytes are all that the port had left, and they are within its limit
 pub record ReadsIn (port : ℕ) (before after : Ports) (bytes : List ℕ) : Type 0 where
@@ -25,7 +25,7 @@ pub record ReadsIn (port : ℕ) (before after : Ports) (bytes : List ℕ) : Type
 abbrev pub ReadFails : ℕ → Ports → Ports → Status → Type 0
 ReadFails port before after NoMemory = Untouched before after
 ReadFails port before after (HostFault (Read p)) = (p ≡ port) × PullKeeps port before after × Rose (before port).pulls (after port).pulls
-ReadFails port before after (Refused (TooLong p)) = (p ≡ port) × PullKeeps port before after × IfTold (before port).left (λ bytes. limit port < length bytes)
+ReadFails port before after (Refused (TooLong p)) = (p ≡ port) × PullKeeps port before after × IsTooLong port before after
 ReadFails port before after _ = ⊥
 
 -- the port was read, and its bytes spell this volume
@@ -45,7 +45,7 @@ pub record IsNoVolume (table : List ClassEntry) (port : ℕ) (before after : Por
 abbrev pub VolumeFails : List ClassEntry → ℕ → Ports → Ports → Status → Type 0
 VolumeFails table port before after NoMemory = PullKeeps port before after
 VolumeFails table port before after (HostFault (Read p)) = (p ≡ port) × PullKeeps port before after × Rose (before port).pulls (after port).pulls
-VolumeFails table port before after (Refused (TooLong p)) = (p ≡ port) × PullKeeps port before after × IfTold (before port).left (λ bytes. limit port < length bytes)
+VolumeFails table port before after (Refused (TooLong p)) = (p ≡ port) × PullKeeps port before after × IsTooLong port before after
 VolumeFails table port before after (Refused (Volume p offset code)) = (p ≡ port) × IsNoVolume table port before after offset code
 VolumeFails table port before after _ = ⊥
 

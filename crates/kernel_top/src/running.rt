@@ -38,8 +38,8 @@ pub fn run_schedule(
     ensures few { IfOk result (λ m. length (events_of config.now) ≤ max_events) }
     ensures fault { IsRefusedRightly config.now volumes.now result }
 {
-    let events = events(alloc, config)?;
     let mut machine = load_state(alloc, config, volumes)?;
+    let events = events(alloc, config)?;
     machine.plain_law();
     machine.run(events.as_slice());
     plain_laws();

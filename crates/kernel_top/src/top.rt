@@ -2,7 +2,7 @@
 
 ghost use Rattle.std.specs.Prelude.{◌≡◌, ◌≤◌, map, length};
 ghost use Rattle.config_text.specs.Valid.{IsValid, max_events};
-ghost use Rattle.kernel_top.specs.Answer.{Asks, UsageShows, CauseShows, IfRan, Reported, MachineReported, EndShows, VolumesShow, Shown, PrefixShows, SilenceShows, OthersShow};
+ghost use Rattle.kernel_top.specs.Answer.{Asks, UsageShows, CauseShows, IfRan, Reported, MachineReported, EndShows, VolumesShow, Shown, PrefixShows, SilenceShows, UnreadShows, OthersShow};
 ghost use Rattle.kernel_top.specs.Input.{loaded};
 ghost use Rattle.kernel_top.specs.Outcome.{Outcome, CommandRuns, RunsAs, RunsLoaded, ShowsAs};
 ghost use Rattle.loader.specs.Records.{AreVolumes, Loads};
@@ -156,6 +156,7 @@ pub fn sim_main<H: Host>(alloc: Global, words: &[&str], host: &mut H) -> Status
     // What the ports have then.
     ensures prefix { (c : Command) → Asks (map (λ w. w.now) words.now) c → PrefixShows c (H.ports host.old) (H.ports host.new) result }
     ensures silence { SilenceShows (H.ports host.old) (H.ports host.new) result }
+    ensures unread { (c : Command) → Asks (map (λ w. w.now) words.now) c → UnreadShows (H.ports host.old) (H.ports host.new) result }
     ensures other_ports { (c : Command) → Asks (map (λ w. w.now) words.now) c → OthersShow c (H.ports host.old) (H.ports host.new) }
 {
     match command_of(words) {

@@ -57,6 +57,7 @@ returns-in-Err-push_volumes g c =
         _,
         pushed_as _ _ _ _ (report_is c.section_laws.ensures.reports k vs valid c.requires.few m c.requires.machine) c.in-Ok.ensures,
         image_torn_as _ k (image_in (loaded k vs) m) (due k vs) _ _ (images_due k vs m c.requires.machine) c.in-Err-push_volumes.ensures.torn,
+        run_ends c.section_laws.ensures.reports k vs valid c.requires.few m c.requires.machine _ (sym c.some_live.ensures ∙ c.if-some_live.false) c.requires.loads,
       ),
       c.requires.loads,
     )

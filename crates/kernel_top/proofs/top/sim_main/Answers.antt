@@ -1,4 +1,4 @@
-use Rattle.kernel_top.proofs.Answers.{headline, report, ended, volumes, shown, cause, prefix, silence, others, usage, as_asked}
+use Rattle.kernel_top.proofs.Answers.{headline, report, ended, volumes, shown, cause, prefix, silence, unread, others, usage, as_asked}
 use Rattle.kernel_top.proofs.top.sim_main.Goals as goal
 
 pub returns-in-Some-clause-headline : goal.returns-in-Some-clause-headline
@@ -27,6 +27,9 @@ returns-in-Some-clause-prefix g c = λ d h. prefix _ _ _ _ (as_asked _ d _ _ _ _
 
 pub returns-in-Some-clause-silence : goal.returns-in-Some-clause-silence
 returns-in-Some-clause-silence g c = silence _ _ _ _ c.carry_out.ensures
+
+pub returns-in-Some-clause-unread : goal.returns-in-Some-clause-unread
+returns-in-Some-clause-unread g c = λ d h. unread _ _ _ _ (as_asked _ d _ _ _ _ h c.in-Some.ensures c.carry_out.ensures)
 
 pub returns-in-Some-clause-other_ports : goal.returns-in-Some-clause-other_ports
 returns-in-Some-clause-other_ports g c = λ d h. others _ _ _ _ (as_asked _ d _ _ _ _ h c.in-Some.ensures c.carry_out.ensures)
