@@ -3,13 +3,14 @@
 
 mod text;
 
-ghost use Rattle.std.specs.Prelude.{◌≡◌, ◌⊎◌, map, string_bytes};
+ghost use Rattle.std.specs.Prelude.{◌≡◌, ◌⊎◌, IfOk, map, string_bytes};
 ghost use Rattle.kernel_top.specs.declared.command.Command.{Command};
 ghost use Rattle.kernel_top.specs.declared.command.Command.TheVariants.{Sim};
 ghost use Rattle.kernel_top.specs.Answer.{Asks, UsageShows, CauseShows, IfRan, Reported};
 
 use host_ports::{FileHost, Host};
 use kernel_top::{Status, sim_main};
+use std::alloc::{AllocError, Global};
 use std::io::ErrorKind;
 use std::process::ExitCode;
 use std::rt::Env;
@@ -32,6 +33,17 @@ fn words_after_name(rt: &(impl Env + AllocGlobal)) -> Result<Option<Vec<String>>
     Ok(Some(words))
 }
 
+/// The texts of the words.
+fn texts_of(alloc: Global, words: &[String]) -> Result<Vec<&str>, AllocError>
+    ensures { IfOk result (λ texts. map (λ w. w.now) texts.items ≡ map string_bytes words.now) }
+{
+    let mut texts = Vec::new(alloc);
+    for word in words {
+        texts.push(word.as_str())?;
+    }
+    Ok(texts)
+}
+
 /// What the top call answers to those words on that host, or NoMemory.
 fn run<H: Host>(rt: &impl AllocGlobal, words: &[String], host: &mut H) -> Status
     // By `sim`, Done or Unfinished: the report of the configuration with its volumes, written whole.
@@ -40,13 +52,10 @@ fn run<H: Host>(rt: &impl AllocGlobal, words: &[String], host: &mut H) -> Status
     ensures usage { (result ≡ Status.NoMemory) ⊎ UsageShows (map string_bytes words.now) (H.ports host.old) (H.ports host.new) result }
     ensures cause { (c : Command) → Asks (map string_bytes words.now) c → CauseShows c (H.ports host.old) (H.ports host.new) result }
 {
-    let mut texts = Vec::new(rt.alloc());
-    for word in words {
-        if texts.push(word.as_str()).is_err() {
-            return Status::NoMemory;
-        }
+    match texts_of(rt.alloc(), words) {
+        Ok(texts) => sim_main(rt.alloc(), texts.as_slice(), host),
+        Err(_) => Status::NoMemory,
     }
-    sim_main(rt.alloc(), texts.as_slice(), host)
 }
 
 /// What the top call answers to the words of the process. Words that can't be had are as no words.
