@@ -1,6 +1,6 @@
 //! The volumes of a machine whose words are put there one by one, each byte written out.
 
-ghost use Rattle.std.specs.Prelude.{◌≡◌, length, IfOk};
+ghost use Rattle.std.specs.Prelude.{◌≡◌, ◌≤◌, length, IfOk};
 ghost use Rattle.config_text.specs.Valid.{IsValid};
 
 use config_text::{Config, read_config};
@@ -137,16 +137,22 @@ fn image_of(alloc: Global, records: &[u8]) -> Result<Vec<u8>, Fail> {
     Ok(bytes)
 }
 
+/// Whether the image of a volume after the run has just these records.
+fn has_records(alloc: Global, volume: u8, records: &[u8]) -> Result<bool, Fail>
+    requires { 1 ≤ volume }
+{
+    let config = config_of(alloc)?;
+    let machine = machine_of(alloc, &config)?;
+    let mut image = Image::new(alloc, &config.table)?;
+    volume_after(&machine, &config, volume, &mut image);
+    let expected = image_of(alloc, records)?;
+    Ok(image.bytes() == expected.as_slice())
+}
+
 #[test]
 fn volumes_after_a_run(rt: HostRuntime) -> Result<(), Fail> {
-    let config = config_of(rt.alloc())?;
-    let machine = machine_of(rt.alloc(), &config)?;
-    let mut image = Image::new(rt.alloc(), &config.table)?;
-    volume_after(&machine, &config, 1, &mut image);
-    assert_eq!(rt; image.bytes(), image_of(rt.alloc(), &ONE)?.as_slice());
-    volume_after(&machine, &config, 2, &mut image);
-    assert_eq!(rt; image.bytes(), image_of(rt.alloc(), &TWO)?.as_slice());
-    volume_after(&machine, &config, 3, &mut image);
-    assert_eq!(rt; image.bytes(), image_of(rt.alloc(), &THREE)?.as_slice());
+    assert!(rt; has_records(rt.alloc(), 1, &ONE)?);
+    assert!(rt; has_records(rt.alloc(), 2, &TWO)?);
+    assert!(rt; has_records(rt.alloc(), 3, &THREE)?);
     Ok(())
 }
