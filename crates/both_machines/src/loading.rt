@@ -265,21 +265,38 @@ fn faults_of_records(rt: HostRuntime) -> Result<(), Fail> {
     Ok(())
 }
 
+/// The machine that the segments are loaded as, up to a class if there is one.
+fn loaded(alloc: Global, view: Option<u8>) -> Result<Machine<PlainWords>, Fail> {
+    match load(alloc, FIRST, SECOND, view)? {
+        Ok(machine) => Ok(machine),
+        Err(_) => Err(Fail::from("a machine")),
+    }
+}
+
+/// The word at a place among those of a class.
+fn word_at(machine: &Machine<PlainWords>, class: u32, place: u32) -> Option<u64> {
+    let first = 34_869usize.checked_mul(class as usize)?;
+    let index = first.checked_add(place as usize)?;
+    machine.words().as_slice().get(index).copied()
+}
+
 #[test]
 fn records_in_their_places(rt: HostRuntime) -> Result<(), Fail> {
-    let Ok(whole) = load(rt.alloc(), FIRST, SECOND, None)? else {
-        return Err(Fail::from("all"));
-    };
-    let Ok(part) = load(rt.alloc(), FIRST, SECOND, Some(1))? else {
-        return Err(Fail::from("a part"));
-    };
+    let whole = loaded(rt.alloc(), None)?;
+    let part = loaded(rt.alloc(), Some(1))?;
     for (class, place, all, low) in EXPECTED {
-        let place = 34_869 * class as usize + place as usize;
-        assert_eq!(rt; whole.words().as_slice().get(place), Some(&all), "{place}");
-        assert_eq!(rt; part.words().as_slice().get(place), Some(&low), "{place}");
+        assert_eq!(rt; word_at(&whole, class, place), Some(all), "{class} {place}");
+        assert_eq!(rt; word_at(&part, class, place), Some(low), "{class} {place}");
     }
+    Ok(())
+}
+
+#[test]
+fn processes_in_their_slots(rt: HostRuntime) -> Result<(), Fail> {
+    let whole = loaded(rt.alloc(), None)?;
     assert_eq!(rt; process_at(&whole, 0, 1, 0), Some((0, 4)));
     assert_eq!(rt; process_at(&whole, 0, 2, 0), Some((1, 4)));
+    let part = loaded(rt.alloc(), Some(1))?;
     assert_eq!(rt; process_at(&part, 0, 1, 0), Some((0, 4)));
     assert_eq!(rt; process_at(&part, 0, 2, 0), None);
     Ok(())
