@@ -8,8 +8,6 @@ mod judging;
 mod reading;
 mod stage;
 mod steps;
-#[cfg(test)]
-mod tests;
 mod words;
 
 pub use config::{Config, GateLine, Item, Pool, ProcessLine, Script};

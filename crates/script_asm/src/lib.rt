@@ -16,6 +16,3 @@ pub use fault::AsmError;
 pub use laws::{printed_again, spelling_laws};
 pub use printing::print;
 pub use reading::{assemble, read_lines};
-
-#[cfg(test)]
-mod tests;

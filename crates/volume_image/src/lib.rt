@@ -17,6 +17,3 @@ pub use laws::{fault_laws, image_laws, volume_laws};
 pub use reading::read_volume;
 pub use records::{SegRecord, Volume};
 pub use writing::write_volume;
-
-#[cfg(test)]
-mod tests;

@@ -26,6 +26,3 @@ pub use building::building_law;
 pub use name::ProcName;
 pub use section::model_section;
 pub use state::{ModelState, model_step};
-
-#[cfg(test)]
-mod tests;

@@ -1,6 +1,6 @@
 //! Worked scripts: what is read and how it is printed, and the first fault of what isn't read.
 
-use crate::{AsmError, assemble, print, printed_again, read_lines};
+use script_asm::{AsmError, assemble, print, printed_again, read_lines};
 use script_lang::Program;
 use std::alloc::{AllocError, Global};
 use std::test::Fail;

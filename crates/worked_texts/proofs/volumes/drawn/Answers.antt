@@ -1,7 +1,7 @@
 use Rattle.std.proofs.Common.{ap, length, arith}
 use Rattle.volume_image.specs.Written.{record_bytes}
 use Rattle.volume_image.proofs.Counting.{front_length}
-use Rattle.volume_image.proofs.tests.drawn.Goals as goal
+use Rattle.worked_texts.proofs.volumes.drawn.Goals as goal
 
 pub add-requires : goal.add-requires
 unfolding record_bytes

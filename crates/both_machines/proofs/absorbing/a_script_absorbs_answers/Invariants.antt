@@ -1,5 +1,5 @@
 use Rattle.process.specs.Standing.{StandingFits}
-use Rattle.process.proofs.tests.a_script_absorbs_answers.Given as goal
+use Rattle.both_machines.proofs.absorbing.a_script_absorbs_answers.Given as goal
 
 abbrev pub invariant-loop-answer : goal.invariant-loop-answer
 invariant-loop-answer g l =

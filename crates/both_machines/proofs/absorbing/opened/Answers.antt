@@ -9,7 +9,7 @@ use Rattle.class_model.specs.Shared.{IsShared, UsesScript, has_script, script_at
 use Rattle.process.specs.Standing.{Standing, StandingFits, new_standing}
 use Rattle.process.proofs.Keeping.{opening_fits}
 use Rattle.process.proofs.Stands.{sound_by}
-use Rattle.process.proofs.tests.opened.Goals as goal
+use Rattle.both_machines.proofs.absorbing.opened.Goals as goal
 
 uses_by : (s : Shared) (d n : ℕ) (o : Option Script) → script_at s n ≡ o → option_map_or (λ (x : Script). flows s x.class d) o false ≡ true → UsesScript s d n
 uses_by s d n None e h = absurd (cc)

@@ -6,7 +6,7 @@ use Rattle.script_lang.specs.Program.{program_ok}
 use Rattle.script_lang.specs.declared.instr.Instr.{Instr}
 use Rattle.class_model.specs.Config.{Shared, Script, Gate, Pool}
 use Rattle.class_model.specs.Shared.{IsShared, IsScript}
-use Rattle.process.proofs.tests.one_script.Goals as goal
+use Rattle.both_machines.proofs.absorbing.one_script.Goals as goal
 
 abbrev one : List ClassEntry → List Instr → Shared
 one t program = record { table = t; pools = record { frames = 1; pages = 1 } ∷ []; console = 1; scripts = Some (record { class = 0; program = program }) ∷ []; gates = [] }

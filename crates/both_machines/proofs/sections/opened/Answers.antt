@@ -6,7 +6,7 @@ use Rattle.class_model.specs.Config.{Shared, Script, flows}
 use Rattle.class_model.specs.Shared.{UsesScript, has_script, script_at}
 use Rattle.process.specs.Fits.{IsSound}
 use Rattle.process.specs.Standing.{Standing}
-use Rattle.report.proofs.tests.opened.Goals as goal
+use Rattle.both_machines.proofs.sections.opened.Goals as goal
 
 uses_by : (s : Shared) (d n : ℕ) (o : Option Script) → script_at s n ≡ o → option_map_or (λ (x : Script). flows s x.class d) o false ≡ true → UsesScript s d n
 uses_by s d n None e h = absurd (cc)

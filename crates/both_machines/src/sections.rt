@@ -6,7 +6,6 @@ ghost use Rattle.class_model.specs.Config.{classes};
 ghost use Rattle.process.specs.Standing.{StandingFits};
 ghost use Rattle.machine.specs.Steps.{ProcessingFits, IsBank};
 
-use crate::section;
 use arrayvec::ArrayString;
 use class_model::{Gate, Pool, Script, Shared};
 use host_ports::MemoryHost;
@@ -14,6 +13,7 @@ use labels::{ClassTable, Label};
 use lists::Items;
 use machine::{Bank, Banks, Machine, MachineParts, VirtualProcessor};
 use process::Process;
+use report::section;
 use rings::Ring;
 use script_lang::{Instr, Program, Reg};
 use std::alloc::Global;

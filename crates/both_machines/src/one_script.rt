@@ -4,7 +4,6 @@ ghost use Rattle.std.specs.Prelude.{◌≡◌, [], ◌∷◌, Some, IfOk, true, 
 ghost use Rattle.script_lang.specs.Program.{program_ok};
 ghost use Rattle.class_model.specs.Config.{classes};
 
-use super::*;
 use arrayvec::ArrayString;
 use class_model::{Gate, Pool, Script, Shared};
 use labels::{ClassTable, Label};
@@ -13,6 +12,7 @@ use rings::Ring;
 use script_lang::{Instr, Program, Reg};
 use std::alloc::Global;
 use std::test::Fail;
+use whole_machine::{ModelState, ProcName, model_section, model_step};
 
 /// One class with a frame and a page, one console line, and one script.
 fn one_script(

@@ -3,12 +3,12 @@
 ghost use Rattle.std.specs.Prelude.{IfOk};
 ghost use Rattle.volume_image.specs.Images.{IsMadeFor};
 
-use crate::{Image, SegRecord, Volume, VolumeError, read_volume, write_volume};
 use arrayvec::ArrayString;
 use labels::{ClassTable, Label};
 use rings::Brackets;
 use std::alloc::Global;
 use std::test::Fail;
+use volume_image::{Image, SegRecord, Volume, VolumeError, read_volume, write_volume};
 use words_layout::SegId;
 
 /// Two classes and a record, in format 1.

@@ -4,12 +4,12 @@ ghost use Rattle.std.specs.Prelude.{◌≡◌, [], ◌∷◌, Some, IfSome, true
 ghost use Rattle.script_lang.specs.Program.{program_ok};
 ghost use Rattle.process.specs.Standing.{StandingFits};
 
-use super::*;
 use arrayvec::ArrayString;
-use class_model::{Gate, Pool, Script};
+use class_model::{Gate, Pool, Script, Shared};
 use labels::{ClassTable, Label};
 use lists::Items;
 use policy::{Outcome, Reply};
+use process::{Absorbed, Made, Process};
 use rings::Ring;
 use script_lang::{Index, Instr, Program, Reg};
 use std::alloc::Global;
