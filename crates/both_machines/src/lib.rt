@@ -13,6 +13,8 @@ mod loading;
 #[cfg(test)]
 mod one_script;
 #[cfg(test)]
+mod parts;
+#[cfg(test)]
 mod sections;
 #[cfg(test)]
 mod tests;

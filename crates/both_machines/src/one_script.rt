@@ -1,46 +1,14 @@
 //! A run of one script with a refused line and a refused look at an entry, worked out by hand.
 
-ghost use Rattle.std.specs.Prelude.{◌≡◌, [], ◌∷◌, Some, IfOk, true, length};
-ghost use Rattle.script_lang.specs.Program.{program_ok};
+ghost use Rattle.std.specs.Prelude.{◌≡◌};
 ghost use Rattle.class_model.specs.Config.{classes};
 
-use arrayvec::ArrayString;
-use class_model::{Gate, Pool, Script, Shared};
-use labels::{ClassTable, Label};
-use lists::Items;
+use crate::parts::{register, shared_with};
 use rings::Ring;
-use script_lang::{Instr, Program, Reg};
+use script_lang::Instr;
 use std::alloc::Global;
 use std::test::Fail;
 use whole_machine::{ModelState, ProcName, model_section, model_step};
-
-/// One class with a frame and a page, one console line, and one script.
-fn one_script(
-    table: ClassTable,
-    pool: Items<Pool>,
-    script: Items<Option<Script>>,
-    gates: Items<Option<Gate>>,
-    program: &Program,
-) -> Shared
-    requires table { length table ≡ 1 }
-    requires pool { pool ≡ record { frames = 1; pages = 1 } ∷ [] }
-    requires program { program_ok program.now ≡ true }
-    requires script { script ≡ Some (record { class = 0; program = program.now }) ∷ [] }
-    requires gates { gates ≡ [] }
-    ensures { classes result ≡ 1 }
-{
-    Shared {
-        table,
-        pools: pool,
-        console: 1,
-        scripts: script,
-        gates,
-    }
-}
-
-fn register(number: u8) -> Result<Reg, Fail> {
-    Ok(Reg::new(number).ok_or("a register")?)
-}
 
 /// A line, a line too many, a look at an empty entry of the root, and the end.
 fn script(alloc: Global) -> Result<Vec<Instr>, Fail> {
@@ -55,32 +23,6 @@ fn script(alloc: Global) -> Result<Vec<Instr>, Fail> {
     Ok(list)
 }
 
-fn shared(alloc: Global) -> Result<Shared, Fail>
-    ensures { IfOk result (λ s. classes s ≡ 1) }
-{
-    let name: ArrayString<16> = ArrayString::from("low").ok().ok_or("a name")?;
-    let mut entries = Vec::new(alloc);
-    entries.push((name, Label::parse("0{}/15{}").ok().ok_or("a label")?))?;
-    let table = ClassTable::new(entries).ok().ok_or("a table")?;
-    if table.count() != 1 {
-        return Err(Fail::from("one class"));
-    }
-    let program = Program::new(script(alloc)?).ok().ok_or("a program")?;
-    let kept = program.copy(alloc)?;
-    let _list = kept.list();
-    let mut pools = Vec::new(alloc);
-    pools.push(Pool {
-        frames: 1,
-        pages: 1,
-    })?;
-    let mut scripts = Vec::new(alloc);
-    scripts.push(Some(Script { class: 0, program }))?;
-    let pool = Items::of(pools);
-    let script = Items::of(scripts);
-    let gates = Items::of(Vec::new(alloc));
-    Ok(one_script(table, pool, script, gates, &kept))
-}
-
 const FIRST: ProcName = ProcName {
     processor: 0,
     class: 0,
@@ -89,7 +31,8 @@ const FIRST: ProcName = ProcName {
 
 #[test]
 fn a_script_runs_to_its_end(rt: HostRuntime) -> Result<(), Fail> {
-    let mut state = ModelState::opening(rt.alloc(), shared(rt.alloc())?)?;
+    let shared = shared_with(rt.alloc(), script(rt.alloc())?)?;
+    let mut state = ModelState::opening(rt.alloc(), shared)?;
     let name = FIRST;
     if state.place(&name).is_some() {
         return Err(Fail::from("nobody is there"));

@@ -1,20 +1,18 @@
 //! The sections of a machine of two classes, each line written out.
 
-ghost use Rattle.std.specs.Prelude.{◌≡◌, ◌<◌, ◌/◌, ◌∷◌, [], Some, IfSome, IfOk, true, length};
+ghost use Rattle.std.specs.Prelude.{◌≡◌, ◌<◌, ◌/◌, ◌∷◌, [], Some, IfOk, true, length};
 ghost use Rattle.script_lang.specs.Program.{program_ok};
 ghost use Rattle.class_model.specs.Config.{classes};
-ghost use Rattle.process.specs.Standing.{StandingFits};
 ghost use Rattle.machine.specs.Steps.{ProcessingFits, IsBank};
 
+use crate::parts::opened;
 use arrayvec::ArrayString;
 use class_model::{Gate, Pool, Script, Shared};
 use host_ports::MemoryHost;
 use labels::{ClassTable, Label};
 use lists::Items;
 use machine::{Bank, Banks, Machine, MachineParts, VirtualProcessor};
-use process::Process;
 use report::section;
-use rings::Ring;
 use script_lang::{Instr, Program, Reg};
 use std::alloc::Global;
 use std::test::Fail;
@@ -90,27 +88,13 @@ fn shared_of(alloc: Global) -> Result<Shared, Fail>
     Ok(two_classes(table, pool, script, gates, &kept))
 }
 
-/// A process at the begin of script 0, with r2 = 5, where that script is there.
-fn opened(shared: &Shared, class: u8) -> Option<Process>
-    requires { class < classes shared.now }
-    ensures { IfSome result (λ p. (p.class ≡ class) × StandingFits shared.now p) }
-{
-    machine::fitting_laws();
-    shared.shared_law();
-    shared.table().table_law();
-    if !shared.has_script(0, class) {
-        return None;
-    }
-    Some(Process::new(class, 0, Ring(4), 5))
-}
-
 /// A virtual processor of a class with one process.
 fn processing(alloc: Global, shared: &Shared, class: u8) -> Result<VirtualProcessor, Fail>
     requires { class < classes shared.now }
     ensures { IfOk result (λ v. (v.class ≡ class) × ProcessingFits shared.now v) }
 {
     machine::fitting_laws();
-    let process = opened(shared, class).ok_or("a script")?;
+    let process = opened(shared, class, 5).ok_or("a script")?;
     let mut here = VirtualProcessor::new(alloc, class, shared.console())?;
     here.put(0, process);
     Ok(here)
