@@ -1,4 +1,4 @@
-//! What the small runs begin with: one class with a script, and a process at the begin of it.
+//! What the small runs start with: one class with a script, and a process at the start of it.
 
 ghost use Rattle.std.specs.Prelude.{◌≡◌, ◌<◌, [], ◌∷◌, Some, IfSome, IfOk, true, length};
 ghost use Rattle.script_lang.specs.Program.{program_ok};
@@ -71,7 +71,7 @@ pub fn shared_with(alloc: Global, script: Vec<Instr>) -> Result<Shared, Fail>
     Ok(one_script(table, pool, script, gates, &kept))
 }
 
-/// A process at the begin of script 0, with this number in r2, where that script is there.
+/// A process at the start of script 0, with this number in r2, where that script is there.
 pub fn opened(shared: &Shared, class: u8, number: u64) -> Option<Process>
     requires { class < classes shared.now }
     ensures { IfSome result (λ p. (p.class ≡ class) × StandingFits shared.now p) }

@@ -41,7 +41,7 @@ impl ProcessState {
         match *instr {
             Instr::Call(gate) => self.may_call(shared, class, gate.number()),
             Instr::Ret => !self.stack.is_empty(),
-            Instr::Terminate(a) => self.known(self.register(a)).is_some(),
+            Instr::Terminate(segment) => self.known(self.register(segment)).is_some(),
             Instr::Spawn(script, _) => free && shared.has_script(script.number(), class),
             _ => true,
         }

@@ -63,29 +63,29 @@ impl ProcessState {
 
     /// The request of `makeknown`, or the first refusal.
     #[tactic(auto, using(crate::proofs::Passed::make_known_entry, crate::proofs::Passed::make_known_mode))]
-    fn ask_make_known(&self, a: Reg, b: Reg, c: Reg) -> Result<Request, Rule>
-        ensures plan { plan_by self.now result ≡ of_known self.now (usable_at self.now (reg self.now a))
-            (make_known_tests self.now.ring (reg self.now b) (reg self.now c) (is_none (free_known self.now)))
-            (λ k. MakeKnown k (reg self.now b) (reg self.now c)) }
+    fn ask_make_known(&self, mentor: Reg, entry: Reg, mode: Reg) -> Result<Request, Rule>
+        ensures plan { plan_by self.now result ≡ of_known self.now (usable_at self.now (reg self.now mentor))
+            (make_known_tests self.now.ring (reg self.now entry) (reg self.now mode) (is_none (free_known self.now)))
+            (λ k. MakeKnown k (reg self.now entry) (reg self.now mode)) }
         ensures range { (n : ℕ) → KnowsClasses n self.now → IfOk result (λ r. InRange n r × AsksOf n r) }
         ensures passed { (table : List ClassEntry) → AskPassed table self.now result }
     {
-        let known = self.usable(a)?;
-        let entry = self.register(b);
-        let mode = self.register(c);
+        let known = self.usable(mentor)?;
+        let entry = self.register(entry);
+        let mode = self.register(mode);
         let full = self.known.is_full();
         unless(make_known_refusal(self.ring, &known, entry, mode, full))?;
         Ok(Request::MakeKnown { known, entry, mode })
     }
 
     /// The request of `read` (`wanted` is then 0) or `await`, or the first refusal.
-    fn ask_read(&self, a: Reg, wanted: u64) -> Result<Request, Rule>
-        ensures plan { plan_by self.now result ≡ of_known self.now (usable_at self.now (reg self.now a))
+    fn ask_read(&self, segment: Reg, wanted: u64) -> Result<Request, Rule>
+        ensures plan { plan_by self.now result ≡ of_known self.now (usable_at self.now (reg self.now segment))
             (read_tests self.now.ring) (λ k. Read k wanted (tally_of self.now)) }
         ensures range { (n : ℕ) → KnowsClasses n self.now → IfOk result (λ r. InRange n r × AsksOf n r) }
         ensures passed { (table : List ClassEntry) → AskPassed table self.now result }
     {
-        let known = self.usable(a)?;
+        let known = self.usable(segment)?;
         unless(read_refusal(self.ring, &known))?;
         let tally = self.tally();
         Ok(Request::Read {
@@ -100,24 +100,24 @@ impl ProcessState {
     fn ask_create(
         &self,
         table: &ClassTable,
-        a: Reg,
-        b: Reg,
-        c: Reg,
-        x: Reg,
-        e: Reg,
+        mentor: Reg,
+        entry: Reg,
+        class: Reg,
+        brackets: Reg,
+        size: Reg,
     ) -> Result<Request, Rule>
         requires { KnowsClasses (length table.now) self.now }
-        ensures plan { plan_by self.now result ≡ of_known self.now (usable_at self.now (reg self.now a))
-            (create_tests table.now self.now.ring (reg self.now b) (reg self.now c) (reg self.now x) (reg self.now e))
-            (λ k. Create k (reg self.now b) (reg self.now c) (brackets_of (reg self.now x)) (reg self.now e)) }
+        ensures plan { plan_by self.now result ≡ of_known self.now (usable_at self.now (reg self.now mentor))
+            (create_tests table.now self.now.ring (reg self.now entry) (reg self.now class) (reg self.now brackets) (reg self.now size))
+            (λ k. Create k (reg self.now entry) (reg self.now class) (brackets_of (reg self.now brackets)) (reg self.now size)) }
         ensures range { IfOk result (λ r. InRange (length table.now) r × AsksOf (length table.now) r) }
         ensures passed { AskPassed table.now self.now result }
     {
-        let known = self.usable(a)?;
-        let entry = self.register(b);
-        let class = self.register(c);
-        let brackets = self.register(x);
-        let size = self.register(e);
+        let known = self.usable(mentor)?;
+        let entry = self.register(entry);
+        let class = self.register(class);
+        let brackets = self.register(brackets);
+        let size = self.register(size);
         let refusal = create_refusal(table, self.ring, &known, entry, class, brackets, size);
         unless(refusal)?;
         Ok(Request::Create {
@@ -131,55 +131,55 @@ impl ProcessState {
 
     /// The request of `delete`, or the first refusal.
     #[tactic(auto, using(crate::proofs::Passed::delete_entry))]
-    fn ask_delete(&self, a: Reg, b: Reg) -> Result<Request, Rule>
-        ensures plan { plan_by self.now result ≡ of_known self.now (usable_at self.now (reg self.now a))
-            (delete_tests self.now.ring (reg self.now b)) (λ k. Delete k (reg self.now b)) }
+    fn ask_delete(&self, mentor: Reg, entry: Reg) -> Result<Request, Rule>
+        ensures plan { plan_by self.now result ≡ of_known self.now (usable_at self.now (reg self.now mentor))
+            (delete_tests self.now.ring (reg self.now entry)) (λ k. Delete k (reg self.now entry)) }
         ensures range { (n : ℕ) → KnowsClasses n self.now → IfOk result (λ r. InRange n r × AsksOf n r) }
         ensures passed { (table : List ClassEntry) → AskPassed table self.now result }
     {
-        let known = self.usable(a)?;
-        let entry = self.register(b);
+        let known = self.usable(mentor)?;
+        let entry = self.register(entry);
         unless(delete_refusal(self.ring, &known, entry))?;
         Ok(Request::Delete { known, entry })
     }
 
     /// The request of `swapin`, or the first refusal.
-    fn ask_swap_in(&self, a: Reg) -> Result<Request, Rule>
-        ensures plan { plan_by self.now result ≡ of_known self.now (usable_at self.now (reg self.now a))
+    fn ask_swap_in(&self, segment: Reg) -> Result<Request, Rule>
+        ensures plan { plan_by self.now result ≡ of_known self.now (usable_at self.now (reg self.now segment))
             (swap_in_tests self.now.ring) (λ k. SwapIn k) }
         ensures range { (n : ℕ) → KnowsClasses n self.now → IfOk result (λ r. InRange n r × AsksOf n r) }
         ensures passed { (table : List ClassEntry) → AskPassed table self.now result }
     {
-        let known = self.usable(a)?;
+        let known = self.usable(segment)?;
         unless(swap_in_refusal(self.ring, &known))?;
         Ok(Request::SwapIn(known))
     }
 
     /// The request of `swapout`, or the first refusal.
-    fn ask_swap_out(&self, a: Reg) -> Result<Request, Rule>
-        ensures plan { plan_by self.now result ≡ of_known self.now (usable_at self.now (reg self.now a))
+    fn ask_swap_out(&self, segment: Reg) -> Result<Request, Rule>
+        ensures plan { plan_by self.now result ≡ of_known self.now (usable_at self.now (reg self.now segment))
             (swap_out_tests self.now.ring) (λ k. SwapOut k) }
         ensures range { (n : ℕ) → KnowsClasses n self.now → IfOk result (λ r. InRange n r × AsksOf n r) }
         ensures passed { (table : List ClassEntry) → AskPassed table self.now result }
     {
-        let known = self.usable(a)?;
+        let known = self.usable(segment)?;
         unless(swap_out_refusal(self.ring, &known))?;
         Ok(Request::SwapOut(known))
     }
 
     /// The request of `fetch`, or the first refusal.
     #[tactic(auto, using(crate::proofs::Passed::fetch_bounds))]
-    fn ask_fetch(&self, a: Reg, b: Reg, c: Reg, x: Reg) -> Result<Request, Rule>
-        ensures plan { plan_by self.now result ≡ of_known self.now (usable_at self.now (reg self.now a))
-            (fetch_tests self.now.ring (reg self.now b) (reg self.now c) (reg self.now x))
-            (λ k. Fetch k (reg self.now b) (reg self.now c) (reg self.now x)) }
+    fn ask_fetch(&self, segment: Reg, offset: Reg, count: Reg, pad: Reg) -> Result<Request, Rule>
+        ensures plan { plan_by self.now result ≡ of_known self.now (usable_at self.now (reg self.now segment))
+            (fetch_tests self.now.ring (reg self.now offset) (reg self.now count) (reg self.now pad))
+            (λ k. Fetch k (reg self.now offset) (reg self.now count) (reg self.now pad)) }
         ensures range { (n : ℕ) → KnowsClasses n self.now → IfOk result (λ r. InRange n r × AsksOf n r) }
         ensures passed { (table : List ClassEntry) → AskPassed table self.now result }
     {
-        let known = self.usable(a)?;
-        let offset = self.register(b);
-        let count = self.register(c);
-        let pad = self.register(x);
+        let known = self.usable(segment)?;
+        let offset = self.register(offset);
+        let count = self.register(count);
+        let pad = self.register(pad);
         unless(fetch_refusal(self.ring, &known, offset, count, pad))?;
         Ok(Request::Fetch {
             known,
@@ -191,17 +191,17 @@ impl ProcessState {
 
     /// The request of `update`, or the first refusal.
     #[tactic(auto, using(crate::proofs::Passed::update_bounds))]
-    fn ask_update(&self, a: Reg, b: Reg, c: Reg, x: Reg) -> Result<Request, Rule>
-        ensures plan { plan_by self.now result ≡ of_known self.now (usable_at self.now (reg self.now a))
-            (update_tests self.now.ring (reg self.now b) (reg self.now c) (reg self.now x))
-            (λ k. Update k (reg self.now b) (part_of self.now.pad (reg self.now x) (reg self.now c))) }
+    fn ask_update(&self, segment: Reg, offset: Reg, count: Reg, pad: Reg) -> Result<Request, Rule>
+        ensures plan { plan_by self.now result ≡ of_known self.now (usable_at self.now (reg self.now segment))
+            (update_tests self.now.ring (reg self.now offset) (reg self.now count) (reg self.now pad))
+            (λ k. Update k (reg self.now offset) (part_of self.now.pad (reg self.now pad) (reg self.now count))) }
         ensures range { (n : ℕ) → KnowsClasses n self.now → IfOk result (λ r. InRange n r × AsksOf n r) }
         ensures passed { (table : List ClassEntry) → AskPassed table self.now result }
     {
-        let known = self.usable(a)?;
-        let offset = self.register(b);
-        let count = self.register(c);
-        let pad = self.register(x);
+        let known = self.usable(segment)?;
+        let offset = self.register(offset);
+        let count = self.register(count);
+        let pad = self.register(pad);
         unless(update_refusal(self.ring, &known, offset, count, pad))?;
         Ok(Request::Update {
             known,
@@ -212,13 +212,13 @@ impl ProcessState {
     }
 
     /// The request of `advance`, or the first refusal. A segment that may be signalled alone is enough.
-    fn ask_advance(&self, a: Reg) -> Result<Request, Rule>
-        ensures plan { plan_by self.now result ≡ of_known self.now (known_at self.now (reg self.now a))
+    fn ask_advance(&self, segment: Reg) -> Result<Request, Rule>
+        ensures plan { plan_by self.now result ≡ of_known self.now (known_at self.now (reg self.now segment))
             (advance_tests self.now.ring) (λ k. Advance k) }
         ensures range { (n : ℕ) → KnowsClasses n self.now → IfOk result (λ r. InRange n r × AsksOf n r) }
         ensures passed { (table : List ClassEntry) → AskPassed table self.now result }
     {
-        let Some(known) = self.known(self.register(a)) else {
+        let Some(known) = self.known(self.register(segment)) else {
             return Err(Rule::UnknownSegno);
         };
         unless(advance_refusal(self.ring, known))?;
@@ -226,13 +226,13 @@ impl ProcessState {
     }
 
     /// The request of `ticket`, or the first refusal.
-    fn ask_ticket(&self, a: Reg) -> Result<Request, Rule>
-        ensures plan { plan_by self.now result ≡ of_known self.now (usable_at self.now (reg self.now a))
+    fn ask_ticket(&self, segment: Reg) -> Result<Request, Rule>
+        ensures plan { plan_by self.now result ≡ of_known self.now (usable_at self.now (reg self.now segment))
             (ticket_tests self.now.ring) (λ k. Ticket k) }
         ensures range { (n : ℕ) → KnowsClasses n self.now → IfOk result (λ r. InRange n r × AsksOf n r) }
         ensures passed { (table : List ClassEntry) → AskPassed table self.now result }
     {
-        let known = self.usable(a)?;
+        let known = self.usable(segment)?;
         unless(ticket_refusal(self.ring, &known))?;
         Ok(Request::Ticket(known))
     }
@@ -246,18 +246,27 @@ impl ProcessState {
         ensures passed { IfSome result (AskPassed shared.now.table self.now) }
     {
         match *instr {
-            Instr::MakeKnown(a, b, c) => Some(self.ask_make_known(a, b, c)),
-            Instr::Create(a, b, c, x, e) => Some(self.ask_create(shared.table(), a, b, c, x, e)),
-            Instr::Delete(a, b) => Some(self.ask_delete(a, b)),
-            Instr::SwapIn(a) => Some(self.ask_swap_in(a)),
-            Instr::SwapOut(a) => Some(self.ask_swap_out(a)),
-            Instr::Fetch(a, b, c, x) => Some(self.ask_fetch(a, b, c, x)),
-            Instr::Update(a, b, c, x) => Some(self.ask_update(a, b, c, x)),
-            Instr::Read(a) => Some(self.ask_read(a, 0)),
-            Instr::Await(a, b) => Some(self.ask_read(a, self.register(b))),
-            Instr::Advance(a) => Some(self.ask_advance(a)),
-            Instr::Ticket(a) => Some(self.ask_ticket(a)),
-            Instr::Out(a) => Some(Ok(Request::Out(self.register(a)))),
+            Instr::MakeKnown(mentor, entry, mode) => {
+                Some(self.ask_make_known(mentor, entry, mode))
+            }
+            Instr::Create(mentor, entry, class, brackets, size) => {
+                let table = shared.table();
+                Some(self.ask_create(table, mentor, entry, class, brackets, size))
+            }
+            Instr::Delete(mentor, entry) => Some(self.ask_delete(mentor, entry)),
+            Instr::SwapIn(segment) => Some(self.ask_swap_in(segment)),
+            Instr::SwapOut(segment) => Some(self.ask_swap_out(segment)),
+            Instr::Fetch(segment, offset, count, pad) => {
+                Some(self.ask_fetch(segment, offset, count, pad))
+            }
+            Instr::Update(segment, offset, count, pad) => {
+                Some(self.ask_update(segment, offset, count, pad))
+            }
+            Instr::Read(segment) => Some(self.ask_read(segment, 0)),
+            Instr::Await(segment, wanted) => Some(self.ask_read(segment, self.register(wanted))),
+            Instr::Advance(segment) => Some(self.ask_advance(segment)),
+            Instr::Ticket(segment) => Some(self.ask_ticket(segment)),
+            Instr::Out(value) => Some(Ok(Request::Out(self.register(value)))),
             _ => None,
         }
     }
@@ -337,7 +346,7 @@ impl ProcessState {
         self.place += 1;
     }
 
-    /// Goes to the begin of the gate's script in the ring of the call.
+    /// Jumps to the start of the gate's script in the ring of the call.
     fn enter(&mut self, gate: Gate, ring: Option<Ring>)
         requires { self.old.place < 256 }
         ensures after { self.new ≡ called self.old gate ring }
@@ -430,23 +439,25 @@ impl ProcessState {
     {
         match *instr {
             Instr::Halt => self.live = false,
-            Instr::Set(a, n) => self.set_register(a, n),
-            Instr::Copy(a, b) => self.set_register(a, self.register(b)),
-            Instr::Add(a, b) => {
-                self.set_register(a, self.register(a).wrapping_add(self.register(b)));
+            Instr::Set(to, value) => self.set_register(to, value),
+            Instr::Copy(to, from) => self.set_register(to, self.register(from)),
+            Instr::Add(to, by) => {
+                self.set_register(to, self.register(to).wrapping_add(self.register(by)));
             }
-            Instr::Sub(a, b) => {
-                self.set_register(a, self.register(a).wrapping_sub(self.register(b)));
+            Instr::Sub(to, by) => {
+                self.set_register(to, self.register(to).wrapping_sub(self.register(by)));
             }
             Instr::Jump(to) => self.jump(true, to),
-            Instr::JumpZ(a, to) => self.jump(self.register(a) == 0, to),
-            Instr::JumpL(a, b, to) => self.jump(self.register(a) < self.register(b), to),
-            Instr::Get(a, b) => self.load_pad(a, self.register(b)),
-            Instr::Put(a, b) => self.store_pad(self.register(b), self.register(a)),
+            Instr::JumpZ(tested, to) => self.jump(self.register(tested) == 0, to),
+            Instr::JumpL(less, than, to) => {
+                self.jump(self.register(less) < self.register(than), to);
+            }
+            Instr::Get(to, place) => self.load_pad(to, self.register(place)),
+            Instr::Put(from, place) => self.store_pad(self.register(place), self.register(from)),
             Instr::Call(gate) => self.call_gate(shared, class, gate.number()),
             Instr::Ret => self.go_back(),
             Instr::Spawn(..) => self.refuse(Rule::NoScript),
-            Instr::Terminate(a) => self.forget(self.register(a)),
+            Instr::Terminate(segment) => self.forget(self.register(segment)),
             _ => {}
         }
     }

@@ -50,20 +50,20 @@ impl Default for Return {
     }
 }
 
-/// The private state of a process: where it is, its ring, up to eight calls to go back from, its registers and
-/// pad words, what it knows, whether it is live, and the look at an eventcount that it has begun.
+/// The private state of a process: where it is, its ring, whether it is live, the look at an eventcount that it has begun,
+/// its registers, what it knows, up to eight calls to go back from, and its pad words. What each step reads stands first.
 #[derive(Drop)]
 pub struct ProcessState {
     pub(crate) script: u8,
     pub(crate) place: u16,
     pub(crate) ring: Ring,
-    /// The last call first.
-    pub(crate) stack: ArrayVec<Return, 8>,
-    pub(crate) regs: [u64; 16],
-    pub(crate) pad: [u64; 64],
-    pub(crate) known: KnownTable,
     pub(crate) live: bool,
     pub(crate) look: Option<Tally>,
+    pub(crate) regs: [u64; 16],
+    pub(crate) known: KnownTable,
+    /// The last call first.
+    pub(crate) stack: ArrayVec<Return, 8>,
+    pub(crate) pad: [u64; 64],
 }
 
 impl Model for ProcessState {
@@ -110,7 +110,7 @@ pub fn write_over(list: &mut [u64], at: usize, words: &[u64])
 }
 
 impl ProcessState {
-    /// A live process at the begin of a script, with r2 = `start`. It knows the root.
+    /// A live process at the start of a script, with r2 = `start`. It knows the root.
     pub fn new(class: u8, script: u8, ring: Ring, start: u64) -> ProcessState
         ensures { result ≡ new_process class script ring start }
     {

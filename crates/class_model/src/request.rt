@@ -72,7 +72,7 @@ pub enum Request {
 pub enum Next {
     /// Its next instruction takes effect on the process alone, or is refused.
     Own,
-    /// It begins a process at the begin of a script, in its own ring, with r2 = `start`.
+    /// It begins a process at the start of a script, in its own ring, with r2 = `start`.
     Begin { script: u8, start: u64 },
     /// It asks the state.
     Ask(Request),

@@ -12,31 +12,27 @@ ghost use Rattle.config_text.specs.Written as spec;
 ghost use Rattle.config_text.specs.Written.{texts_of};
 
 use config_text::{Config, ConfigError, GateLine, Item, Pool, ProcessLine, Script, read_config};
+use itoa::Buffer;
 use labels::{ClassTable, Label};
 use script_asm::print;
 use std::alloc::{AllocError, Global};
 
 /// Writes the number in decimal digits.
-fn push_number(alloc: Global, out: &mut String, n: u64) -> Result<(), AllocError>
+fn push_number(out: &mut String, n: u64) -> Result<(), AllocError>
     ensures { OnOk result (string_bytes out.new ≡ string_bytes out.old ++ decimal n) }
 {
-    let digits = format!(in alloc; "{n}")?;
-    out.push_str(digits.as_str())
+    let mut digits = Buffer::new();
+    out.push_str(digits.format(n))
 }
 
 /// Writes a line of a keyword and a number.
 #[tactic(auto, using(crate::proofs::Pieces::pieces))]
-fn push_number_line(
-    alloc: Global,
-    out: &mut String,
-    keyword: &str,
-    n: u64,
-) -> Result<(), AllocError>
+fn push_number_line(out: &mut String, keyword: &str, n: u64) -> Result<(), AllocError>
     ensures { OnOk result (string_bytes out.new ≡ string_bytes out.old ++ spec.ended (spec.number_line keyword.now n)) }
 {
     out.push_str(keyword)?;
     out.push_str(" ")?;
-    push_number(alloc, out, n)?;
+    push_number(out, n)?;
     out.push_str("\n")?;
     Ok(())
 }
@@ -56,45 +52,40 @@ fn push_class(out: &mut String, name: &str, label: &Label) -> Result<(), AllocEr
 
 /// Writes the rest of the line of a class: its pool.
 #[tactic(auto, using(crate::proofs::Pieces::pieces))]
-fn push_pool(alloc: Global, out: &mut String, pool: &Pool) -> Result<(), AllocError>
+fn push_pool(out: &mut String, pool: &Pool) -> Result<(), AllocError>
     ensures { OnOk result (string_bytes out.new ≡ string_bytes out.old ++ spec.pool_text pool.now) }
 {
     out.push_str(" frames ")?;
-    push_number(alloc, out, u64::from(pool.frames))?;
+    push_number(out, u64::from(pool.frames))?;
     out.push_str(" pages ")?;
-    push_number(alloc, out, u64::from(pool.pages))?;
+    push_number(out, u64::from(pool.pages))?;
     out.push_str(" volume ")?;
-    push_number(alloc, out, u64::from(pool.volume))?;
+    push_number(out, u64::from(pool.volume))?;
     out.push_str("\n")?;
     Ok(())
 }
 
 /// Writes the lines of the classes.
-fn push_classes(
-    alloc: Global,
-    out: &mut String,
-    table: &ClassTable,
-    pools: &[Pool],
-) -> Result<(), AllocError>
+fn push_classes(out: &mut String, table: &ClassTable, pools: &[Pool]) -> Result<(), AllocError>
     requires { length pools.now ≡ length table.now }
     ensures { OnOk result (string_bytes out.new ≡ string_bytes out.old ++ printed (texts_of (spec.class_lines table.now pools.now))) }
 {
     for class in 0..table.count() {
         push_class(out, table.name(class), table.label(class))?;
-        push_pool(alloc, out, &pools[class as usize])?;
+        push_pool(out, &pools[class as usize])?;
     }
     Ok(())
 }
 
 /// Writes the line of the cycle.
 #[tactic(auto, using(crate::proofs::Pieces::cycles))]
-fn push_cycle(alloc: Global, out: &mut String, cycle: &[u8]) -> Result<(), AllocError>
+fn push_cycle(out: &mut String, cycle: &[u8]) -> Result<(), AllocError>
     ensures { OnOk result (string_bytes out.new ≡ string_bytes out.old ++ spec.ended (spec.cycle_line cycle.now)) }
 {
     out.push_str("cycle")?;
     for class in cycle {
         out.push_str(" ")?;
-        push_number(alloc, out, u64::from(*class))?;
+        push_number(out, u64::from(*class))?;
     }
     out.push_str("\n")?;
     Ok(())
@@ -105,7 +96,7 @@ fn push_cycle(alloc: Global, out: &mut String, cycle: &[u8]) -> Result<(), Alloc
 fn push_script(alloc: Global, out: &mut String, script: &Script) -> Result<(), AllocError>
     ensures { OnOk result (string_bytes out.new ≡ string_bytes out.old ++ printed (texts_of (spec.script_lines script.now))) }
 {
-    push_number_line(alloc, out, "script", u64::from(script.class))?;
+    push_number_line(out, "script", u64::from(script.class))?;
     let text = print(alloc, &script.program)?;
     out.push_str(text.as_str())?;
     out.push_str("end\n")?;
@@ -124,63 +115,63 @@ fn push_scripts(alloc: Global, out: &mut String, scripts: &[Script]) -> Result<(
 
 /// Writes the line of a gate.
 #[tactic(auto, using(crate::proofs::Pieces::pieces))]
-fn push_gate(alloc: Global, out: &mut String, gate: &GateLine) -> Result<(), AllocError>
+fn push_gate(out: &mut String, gate: &GateLine) -> Result<(), AllocError>
     ensures { OnOk result (string_bytes out.new ≡ string_bytes out.old ++ spec.ended (spec.gate_line gate.now)) }
 {
     out.push_str("gate ")?;
-    push_number(alloc, out, u64::from(gate.class))?;
+    push_number(out, u64::from(gate.class))?;
     out.push_str(" ")?;
-    push_number(alloc, out, u64::from(gate.script))?;
+    push_number(out, u64::from(gate.script))?;
     out.push_str(" ")?;
-    push_number(alloc, out, u64::from(gate.brackets.r1))?;
+    push_number(out, u64::from(gate.brackets.r1))?;
     out.push_str(" ")?;
-    push_number(alloc, out, u64::from(gate.brackets.r2))?;
+    push_number(out, u64::from(gate.brackets.r2))?;
     out.push_str(" ")?;
-    push_number(alloc, out, u64::from(gate.brackets.r3))?;
+    push_number(out, u64::from(gate.brackets.r3))?;
     out.push_str("\n")?;
     Ok(())
 }
 
 /// Writes the lines of the gates.
-fn push_gates(alloc: Global, out: &mut String, gates: &[GateLine]) -> Result<(), AllocError>
+fn push_gates(out: &mut String, gates: &[GateLine]) -> Result<(), AllocError>
     ensures { OnOk result (string_bytes out.new ≡ string_bytes out.old ++ printed (texts_of (map spec.gate_line gates.now))) }
 {
     for gate in gates {
-        push_gate(alloc, out, gate)?;
+        push_gate(out, gate)?;
     }
     Ok(())
 }
 
 /// Writes the line of a process.
 #[tactic(auto, using(crate::proofs::Pieces::pieces))]
-fn push_process(alloc: Global, out: &mut String, line: &ProcessLine) -> Result<(), AllocError>
+fn push_process(out: &mut String, line: &ProcessLine) -> Result<(), AllocError>
     ensures { OnOk result (string_bytes out.new ≡ string_bytes out.old ++ spec.ended (spec.process_line line.now)) }
 {
     out.push_str("process ")?;
-    push_number(alloc, out, u64::from(line.processor))?;
+    push_number(out, u64::from(line.processor))?;
     out.push_str(" ")?;
-    push_number(alloc, out, u64::from(line.class))?;
+    push_number(out, u64::from(line.class))?;
     out.push_str(" ")?;
-    push_number(alloc, out, u64::from(line.script))?;
+    push_number(out, u64::from(line.script))?;
     out.push_str(" ")?;
-    push_number(alloc, out, u64::from(line.ring.0))?;
+    push_number(out, u64::from(line.ring.0))?;
     out.push_str("\n")?;
     Ok(())
 }
 
 /// Writes the lines of the processes.
-fn push_processes(alloc: Global, out: &mut String, lines: &[ProcessLine]) -> Result<(), AllocError>
+fn push_processes(out: &mut String, lines: &[ProcessLine]) -> Result<(), AllocError>
     ensures { OnOk result (string_bytes out.new ≡ string_bytes out.old ++ printed (texts_of (map spec.process_line lines.now))) }
 {
     for line in lines {
-        push_process(alloc, out, line)?;
+        push_process(out, line)?;
     }
     Ok(())
 }
 
 /// Writes an item of the schedule.
 #[tactic(auto, using(crate::proofs::Pieces::pieces))]
-fn push_item(alloc: Global, out: &mut String, item: &Item) -> Result<(), AllocError>
+fn push_item(out: &mut String, item: &Item) -> Result<(), AllocError>
     ensures { OnOk result (string_bytes out.new ≡ string_bytes out.old ++ spec.ended (spec.item_line item.now)) }
 {
     match item {
@@ -190,49 +181,49 @@ fn push_item(alloc: Global, out: &mut String, item: &Item) -> Result<(), AllocEr
             count,
         } => {
             out.push_str("events ")?;
-            push_number(alloc, out, u64::from(*processor))?;
+            push_number(out, u64::from(*processor))?;
             out.push_str(".")?;
-            push_number(alloc, out, u64::from(*class))?;
+            push_number(out, u64::from(*class))?;
             out.push_str("*")?;
-            push_number(alloc, out, u64::from(*count))?;
+            push_number(out, u64::from(*count))?;
             out.push_str("\n")?;
             Ok(())
         }
         Item::Mix { start, count } => {
             out.push_str("mix ")?;
-            push_number(alloc, out, *start)?;
+            push_number(out, *start)?;
             out.push_str(" ")?;
-            push_number(alloc, out, u64::from(*count))?;
+            push_number(out, u64::from(*count))?;
             out.push_str("\n")?;
             Ok(())
         }
-        Item::Sweep { rounds } => push_number_line(alloc, out, "sweep", u64::from(*rounds)),
+        Item::Sweep { rounds } => push_number_line(out, "sweep", u64::from(*rounds)),
     }
 }
 
 /// Writes the items of the schedule, one a line.
-fn push_items(alloc: Global, out: &mut String, items: &[Item]) -> Result<(), AllocError>
+fn push_items(out: &mut String, items: &[Item]) -> Result<(), AllocError>
     ensures { OnOk result (string_bytes out.new ≡ string_bytes out.old ++ printed (texts_of (map spec.item_line items.now))) }
 {
     for item in items {
-        push_item(alloc, out, item)?;
+        push_item(out, item)?;
     }
     Ok(())
 }
 
 /// Writes the lines before the scripts.
-fn push_header(alloc: Global, out: &mut String, config: &Config) -> Result<(), AllocError>
+fn push_header(out: &mut String, config: &Config) -> Result<(), AllocError>
     requires { length config.now.pools ≡ length config.now.table }
     ensures { OnOk result (string_bytes out.new ≡ string_bytes out.old ++ printed (texts_of (spec.front_lines config.now))) }
 {
     out.push_str("gemkernel 1\n")?;
-    push_number_line(alloc, out, "classes", u64::from(config.table.count()))?;
-    push_classes(alloc, out, &config.table, config.pools.as_slice())?;
-    push_number_line(alloc, out, "processors", u64::from(config.processors))?;
-    push_cycle(alloc, out, config.cycle.as_slice())?;
-    push_number_line(alloc, out, "rounds", u64::from(config.rounds))?;
-    push_number_line(alloc, out, "quantum", u64::from(config.quantum))?;
-    push_number_line(alloc, out, "console", u64::from(config.console))?;
+    push_number_line(out, "classes", u64::from(config.table.count()))?;
+    push_classes(out, &config.table, config.pools.as_slice())?;
+    push_number_line(out, "processors", u64::from(config.processors))?;
+    push_cycle(out, config.cycle.as_slice())?;
+    push_number_line(out, "rounds", u64::from(config.rounds))?;
+    push_number_line(out, "quantum", u64::from(config.quantum))?;
+    push_number_line(out, "console", u64::from(config.console))?;
     Ok(())
 }
 
@@ -242,11 +233,11 @@ fn write_config(alloc: Global, config: &Config) -> Result<String, AllocError>
     ensures { IfOk result (λ t. string_bytes t ≡ spec.written config.now) }
 {
     let mut out = String::new(alloc);
-    push_header(alloc, &mut out, config)?;
+    push_header(&mut out, config)?;
     push_scripts(alloc, &mut out, config.scripts.as_slice())?;
-    push_gates(alloc, &mut out, config.gates.as_slice())?;
-    push_processes(alloc, &mut out, config.processes.as_slice())?;
-    push_items(alloc, &mut out, config.schedule.as_slice())?;
+    push_gates(&mut out, config.gates.as_slice())?;
+    push_processes(&mut out, config.processes.as_slice())?;
+    push_items(&mut out, config.schedule.as_slice())?;
     out.push_str("end\n")?;
     Ok(out)
 }

@@ -27,10 +27,6 @@ use Rattle.config_text.specs.Text.{SpellsWord, Part, one_line, IsEvent, IsGroup,
 use Rattle.config_text.proofs.WordFacts.{not_false, or_false, is_fixed, in_range, is_spelled, value_low, event_whole}
 use Rattle.config_text.proofs.Good.{IsEmptyBehind, IsGood, Adds, all_push, all_append, sum_one, groups_push, lines_push, last_gates, last_processes, last_items, count_push}
 
--- a cut number is the number, where it is low
-byte_is : (n limit : ℕ) → n < limit → limit ≤ 256 → byte n ≡ n
-byte_is n limit lt few = omega arith
-
 any_five : (a b c d e : Bool) → (a || (b || (c || (d || (e || false))))) ≡ false → (a ≡ false) × (b ≡ false) × (c ≡ false) × (d ≡ false) × (e ≡ false)
 any_five true b c d e f = absurd cc
 any_five false true c d e f = absurd cc

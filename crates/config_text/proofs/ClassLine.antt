@@ -5,9 +5,8 @@ use Rattle.text_lines.proofs.FirstFault.{first_code_append}
 use Rattle.labels.specs.Label.{Label, ClassEntry}
 use Rattle.labels.specs.Reading.{label_of_text}
 use Rattle.config_text.specs.declared.fault.Code.{Code}
-use Rattle.config_text.specs.declared.fault.Code.TheVariants as code
 use Rattle.config_text.specs.Place.{Place}
-use Rattle.config_text.specs.Rules.{Text, ClassText, no_form, fixed_tests, pool_tests, front_tests, entry_tests, class_text_tests, class_tests}
+use Rattle.config_text.specs.Rules.{Text, ClassText, fixed_tests, pool_tests, front_tests, entry_tests, class_text_tests, class_tests}
 
 pub front_fixed : (w : ClassText) (c : Code) → first_code (fixed_tests w.keyword w.frames_word w.pages_word w.volume_word) ≡ Some c → first_code (front_tests w) ≡ Some c
 unfolding front_tests
@@ -18,9 +17,6 @@ unfolding front_tests
 front_pool w e = rw (first_code_append, e) refl
 
 pub ruleset groups = (front_fixed, front_pool)
-
-pub class_no_form : (t : List ClassEntry) (q : Place) (ws : List Text) → class_tests t ws ≡ no_form → judged (class_tests t ws) q ≡ Err code.Form
-class_no_form t q ws e = rw e refl
 
 pub class_refused : (t : List ClassEntry) (q : Place) (ws : List Text) (w : ClassText) (c : Code) → class_tests t ws ≡ class_text_tests t w → first_code (front_tests w) ≡ Some c → judged (class_tests t ws) q ≡ Err c
 class_refused t q ws w c e front = rw (e, first_code_append, front) refl

@@ -40,9 +40,6 @@ fault_is c = Err c
 abbrev script_at : ScriptPlace → Result ScriptPlace ScriptCode
 script_at s = Ok s
 
-abbrev script_fault : ScriptCode → Result ScriptPlace ScriptCode
-script_fault c = Err c
-
 -- what a line that isn't `end` answers, by what it answers as a script's line
 abbrev Lifts : Place → ℕ → List (List (List ℕ)) → Line → List Line → ScriptPlace → Result ScriptPlace ScriptCode → Type 0
 Lifts p class all line more s (Ok t) = line_answer config_rules (within_script p class all s) line more ≡ place_is (within_script p class all t)
@@ -90,9 +87,6 @@ behind p class t n (end ∷ rest) = cond (all_allowed end) (lines_answer_from (s
 abbrev pub Follows : Place → ℕ → List (List (List ℕ)) → ScriptPlace → ℕ → ℕ → List Line → Result ScriptPlace (ℕ × ScriptCode) → Type 0
 Follows p class all s m n ls (Ok t) = lines_answer_from (within_script p class all s) n ls ≡ behind p class t (n + length (body_of ls)) (after_body ls)
 Follows p class all s m n ls (Err f) = (m ≤ f.0) × (lines_answer_from (within_script p class all s) n ls ≡ line_fault (n + (f.0 - m)) (next_code f.1 (drop (f.0 - m) ls)))
-
-abbrev script_line_fault : ℕ → ScriptCode → Result ScriptPlace (ℕ × ScriptCode)
-script_line_fault n c = Err (n, c)
 
 -- no line is left
 nothing_left : (p : Place) (class : ℕ) (all : List (List (List ℕ))) (s : ScriptPlace) (m n : ℕ) → p.stage ≡ stage.Scripts → Follows p class all s m n [] (lines_answer (script_rules all) s m [])

@@ -1,3 +1,4 @@
+pub mod WordTests
 pub mod NameBytes
 pub mod Entries
 pub mod ClassLine
@@ -16,3 +17,4 @@ pub mod Headed
 pub mod Takes
 pub mod Spelled
 pub mod Whole
+pub mod ConfigLaws

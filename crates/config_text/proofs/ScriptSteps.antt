@@ -15,7 +15,7 @@ use Rattle.script_asm.specs.Script.{Place as ScriptPlace, start as script_start,
 use Rattle.script_asm.specs.Answer.{IsFault}
 use Rattle.script_asm.specs.Spelling.{Spells as SpellsScript}
 use Rattle.script_asm.proofs.Spelled.{spells_says}
-use Rattle.script_asm.proofs.Outcome.{answer_of, says_read, fault_read}
+use Rattle.script_asm.proofs.Outcome.{answer_of, says_read, fault_read, apart}
 use Rattle.config_text.specs.declared.fault.Code.{Code}
 use Rattle.config_text.specs.declared.fault.Code.TheVariants as code
 use Rattle.config_text.specs.declared.stage.Stage.TheVariants as stage
@@ -93,15 +93,16 @@ abbrev at_script : Place → Place
 at_script p = record p { stage = stage.Scripts }
 
 -- the lines of the script have a fault
-pub script_faulty : (p : Place) (class : ℕ) (ls body : List Line) (at number : ℕ) → body ≡ body_of ls → IsFault body at number →
-    (at ≤ length ls + 1) × ((c : Code) → ((d : ScriptCode) → number ≡ script_number d → c ≡ next_code d (drop (at - 1) ls)) → (n : ℕ) → lines_answer_from (begun p class ls) (n + 1) ls ≡ fault_at (n + at) c)
-script_faulty p class ls body at number e f =
-    let r = fault_read (body_of ls) at number (subst (λ b. IsFault b at number) e f) in
+pub script_faulty : (p : Place) (class : ℕ) (ls body : List Line) (at : ℕ) (d : ScriptCode) → body ≡ body_of ls → IsFault body at (script_number d) →
+    (at ≤ length ls + 1) × ((c : Code) → c ≡ next_code d (drop (at - 1) ls) → (n : ℕ) → lines_answer_from (begun p class ls) (n + 1) ls ≡ fault_at (n + at) c)
+script_faulty p class ls body at d e f =
+    let r = fault_read (body_of ls) at (script_number d) (subst (λ b. IsFault b at (script_number d)) e f) in
     let h = λ (n : ℕ). subst (Follows (at_script p) class (words_in (body_of ls)) script_start 1 (n + 1) ls) r.1 (follows (at_script p) class (words_in (body_of ls)) ls script_start 1 (n + 1) refl) in (
       omega (arith, fault_within (script_rules (words_in (body_of ls))) (body_of ls) script_start 1 at r.0 r.1, body_few ls),
       λ c is n.
           let count : (n + 1) + (at - 1) ≡ n + at = omega (arith, (h n).0) in
-          (h n).1 ∙ rw (count, is r.0 r.2) refl,
+          let code : c ≡ next_code r.0 (drop (at - 1) ls) = is ∙ ap (λ (x : ScriptCode). next_code x (drop (at - 1) ls)) (apart d r.0 r.2) in
+          (h n).1 ∙ rw (count, code) refl,
     )
 
 -- the lines of the script spell a program

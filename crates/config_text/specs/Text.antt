@@ -4,7 +4,7 @@ use Rattle.std.specs.List.{AllZip, AllByRecursion, list_all, flat_map}
 use Rattle.text_lines.specs.Number.{IsNumber}
 use Rattle.text_lines.specs.Lines.{lines, words_of}
 use Rattle.text_lines.specs.Name.{all_allowed}
-use Rattle.text_lines.specs.Faults.{IsFirstFault}
+use Rattle.text_lines.specs.Faults.{IsFirstFault, IsFaultless}
 use Rattle.labels.specs.Text.{Spells as SpellsLabel}
 use Rattle.script_lang.specs.declared.instr.Instr.{Instr}
 use Rattle.script_asm.specs.Spelling.{Spells as SpellsScript}
@@ -18,7 +18,7 @@ use Rattle.config_text.specs.declared.fault.ConfigError.TheVariants as error
 use Rattle.config_text.specs.Written.{Word, fixed, number, label, register, immediate, target, events, number_line, front_lines, gate_line, process_line, end_line}
 use Rattle.config_text.specs.Valid.{IsValid}
 use Rattle.config_text.specs.Codes.{code_number}
-use Rattle.config_text.specs.Place.{Place, start}
+use Rattle.config_text.specs.Place.{Place, start, config_in}
 use Rattle.config_text.specs.Rules.{Text, Line, is_end, config_rules}
 
 -- ---- lines
@@ -123,6 +123,18 @@ pub record Spells (text : List ℕ) (k : Config) : Type 0 where
 -- the first faulty line of the text, counted from 1, and the number of its least code
 abbrev pub IsFault : List ℕ → ℕ → ℕ → Type 0
 IsFault text at n = (c : Code) × (n ≡ code_number c) × IsFirstFault config_rules start (lines text) at c
+
+-- No line of the text has a code, and the lines say this configuration.
+abbrev pub Says : List ℕ → Config → Type 0
+Says text k = (q : Place) × IsFaultless config_rules start (lines text) q × (config_in q ≡ k)
+
+-- The text spells some configuration.
+abbrev pub SpellsOne : List ℕ → Type 0
+SpellsOne text = (k : Config) × Spells text k
+
+-- Some line of the text is the first faulty one, with its least code.
+abbrev pub HasFault : List ℕ → Type 0
+HasFault text = (line : ℕ) × (code : ℕ) × IsFault text line code
 
 -- what is answered: the configuration that the text spells, its first fault, or want of memory
 abbrev pub AnswersText : List ℕ → Result Config ConfigError → Type 0

@@ -18,10 +18,14 @@ use crate::judging::{
     brackets, class_list, count_of, cycle_fault, header_fault, is_below, new_entry, number_in,
     pool_in, push_events,
 };
+use crate::limits::{
+    MAX_CLASSES, MAX_CONSOLE, MAX_EVENTS, MAX_GATES, MAX_PROCESSES, MAX_PROCESSORS, MAX_QUANTUM,
+    MAX_RING, MAX_ROUNDS, MAX_SCRIPTS,
+};
 use crate::stage::{Kind, Stage, after_class, kind_of, may_stand};
 use crate::words::{
-    MAX_EVENTS, byte, class_words, has_misspelt, has_misspelt_event, has_no_event,
-    has_outside_event, is_misspelt, is_outside, is_past, total_events, value,
+    byte, class_words, has_misspelt, has_misspelt_event, has_no_event, has_outside_event,
+    is_misspelt, is_outside, is_past, total_events, value,
 };
 use arrayvec::ArrayString;
 use labels::Label;
@@ -52,7 +56,7 @@ pub struct Draft {
 /// What a line outside a script is.
 #[derive(Clone, Copy, Debug, PartialEq, Eq)]
 pub enum Taken {
-    /// It is taken.
+    /// A line that is taken.
     Line,
     /// The first line of a script of the class.
     Script { class: u8 },
@@ -104,7 +108,7 @@ impl Draft {
         ensures { Answers (place_of self.new) result
             (judged (spec.number_tests (codes "classes") 1 16 (views words.now)) (record (place_of self.old) { stage = stage.Classes; due = spec.number_in (views words.now) })) }
     {
-        let count = number_in(words, b"classes", 1, 16)?;
+        let count = number_in(words, b"classes", 1, MAX_CLASSES)?;
         self.stage = Stage::Classes;
         self.due = count as u8;
         Ok(())
@@ -136,7 +140,7 @@ impl Draft {
         ensures { Answers (place_of self.new) result
             (judged (spec.number_tests (codes "processors") 1 4 (views words.now)) (record (place_of self.old) { stage = stage.Cycle; processors = spec.number_in (views words.now) })) }
     {
-        let count = number_in(words, b"processors", 1, 4)?;
+        let count = number_in(words, b"processors", 1, MAX_PROCESSORS)?;
         self.stage = Stage::Cycle;
         self.processors = count as u8;
         Ok(())
@@ -160,7 +164,7 @@ impl Draft {
         ensures { Answers (place_of self.new) result
             (judged (spec.number_tests (codes "rounds") 1 4096 (views words.now)) (record (place_of self.old) { stage = stage.Quantum; rounds = spec.number_in (views words.now) })) }
     {
-        let count = number_in(words, b"rounds", 1, 4096)?;
+        let count = number_in(words, b"rounds", 1, MAX_ROUNDS)?;
         self.stage = Stage::Quantum;
         self.rounds = count as u32;
         Ok(())
@@ -170,7 +174,7 @@ impl Draft {
         ensures { Answers (place_of self.new) result
             (judged (spec.number_tests (codes "quantum") 1 256 (views words.now)) (record (place_of self.old) { stage = stage.Console; quantum = spec.number_in (views words.now) })) }
     {
-        let count = number_in(words, b"quantum", 1, 256)?;
+        let count = number_in(words, b"quantum", 1, MAX_QUANTUM)?;
         self.stage = Stage::Console;
         self.quantum = count as u32;
         Ok(())
@@ -180,7 +184,7 @@ impl Draft {
         ensures { Answers (place_of self.new) result
             (judged (spec.number_tests (codes "console") 0 4096 (views words.now)) (record (place_of self.old) { stage = stage.Scripts; console = spec.number_in (views words.now) })) }
     {
-        let count = number_in(words, b"console", 0, 4096)?;
+        let count = number_in(words, b"console", 0, MAX_CONSOLE)?;
         self.stage = Stage::Scripts;
         self.console = count as u32;
         Ok(())
@@ -200,7 +204,7 @@ impl Draft {
         if value(class) >= self.entries.len() as u64 {
             return Err(Code::Range);
         }
-        if self.scripts.len() >= 32 {
+        if self.scripts.len() >= MAX_SCRIPTS {
             return Err(Code::Limit);
         }
         Ok(byte(class))
@@ -235,7 +239,7 @@ impl Draft {
         if !self.uses_script(gate.class, gate.script) {
             return Err(Code::Above);
         }
-        if self.gates.len() >= 32 {
+        if self.gates.len() >= MAX_GATES {
             return Err(Code::Limit);
         }
         Ok(())
@@ -294,7 +298,7 @@ impl Draft {
         if !self.uses_script(line.class, line.script) {
             return Err(Code::Above);
         }
-        if count_of(self.processes.as_slice(), line.processor, line.class) >= 4 {
+        if count_of(self.processes.as_slice(), line.processor, line.class) >= MAX_PROCESSES {
             return Err(Code::Fifth);
         }
         Ok(())
@@ -309,7 +313,8 @@ impl Draft {
         ring: &[u8],
     ) -> Option<ProcessLine>
         ensures { MatchOption result (process_past_in (place_of self.now) processor.now class.now script.now ring.now ≡ true)
-            (λ x. (process_past_in (place_of self.now) processor.now class.now script.now ring.now ≡ false) × (x ≡ spec.process_in processor.now class.now script.now ring.now) × (x.class < length self.now.entries.items)) }
+            (λ x. (process_past_in (place_of self.now) processor.now class.now script.now ring.now ≡ false) × (x ≡ spec.process_in processor.now class.now script.now ring.now)
+            × (x.class < length self.now.entries.items)) }
     {
         if value(processor) >= u64::from(self.processors) {
             return None;
@@ -320,14 +325,14 @@ impl Draft {
         if value(script) >= self.scripts.len() as u64 {
             return None;
         }
-        if value(ring) > 7 {
+        if value(ring) > MAX_RING {
             return None;
         }
         Some(ProcessLine {
             processor: byte(processor),
             class: byte(class),
             script: byte(script),
-            ring: Ring(value(ring).min(7) as u8),
+            ring: Ring(value(ring).min(MAX_RING) as u8),
         })
     }
 

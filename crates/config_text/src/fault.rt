@@ -1,14 +1,14 @@
 //! What is wrong with a configuration text.
 
 ghost use Rattle.std.specs.Prelude.{◌≡◌};
-ghost use Rattle.script_asm.specs.declared.fault.Code.{Code as ScriptCode};
-ghost use Rattle.script_asm.specs.Script.{code_number as script_number};
 ghost use Rattle.config_text.specs.Codes.{of_script};
 ghost use Rattle.config_text.specs.declared.fault.Refusal.TheVariants.{Memory, Code as Refused};
 ghost use Rattle.config_text.specs.declared.fault.ConfigError.TheVariants.{NoMemory};
 ghost use Rattle.config_text.specs.declared.fault.Stop.TheVariants.{Memory as NoRoom};
 
+use script_asm::Code as ScriptCode;
 use std::alloc::{AllocError, AllocFailed};
+use std::fmt;
 
 /// What is wrong with a line.
 #[derive(Clone, Copy, Debug, PartialEq, Eq)]
@@ -57,27 +57,29 @@ pub enum Code {
     ScriptPast = 29,
 }
 
-/// The code of a line of a script, by its number among those of scripts.
-pub fn script_code(number: u8) -> Code
-    ensures { (c : ScriptCode) → number ≡ script_number c → result ≡ of_script c }
+/// The code of a line of a configuration that has this code as a line of a script.
+pub fn script_code(code: ScriptCode) -> Code
+    ensures { result ≡ of_script code }
 {
-    match number {
-        1 => Code::ScriptWord,
-        2 => Code::ScriptForm,
-        3 => Code::ScriptNumber,
-        4 => Code::ScriptRegister,
-        5 => Code::ScriptTwice,
-        6 => Code::ScriptNameless,
-        7 => Code::ScriptLong,
-        8 => Code::ScriptEnd,
-        _ => Code::ScriptPast,
+    match code {
+        ScriptCode::Mnemonic => Code::ScriptWord,
+        ScriptCode::Form => Code::ScriptForm,
+        ScriptCode::Number => Code::ScriptNumber,
+        ScriptCode::Register => Code::ScriptRegister,
+        ScriptCode::Twice => Code::ScriptTwice,
+        ScriptCode::Nameless => Code::ScriptNameless,
+        ScriptCode::Long => Code::ScriptLong,
+        ScriptCode::End => Code::ScriptEnd,
+        ScriptCode::Past => Code::ScriptPast,
     }
 }
 
 /// Why a line isn't taken.
 #[derive(Clone, Copy, Debug)]
 pub enum Refusal {
+    /// What is wrong with it.
     Code(Code),
+    /// Memory ran out.
     Memory,
 }
 
@@ -110,6 +112,7 @@ impl From<Code> for Refusal {
 pub enum Stop {
     /// A line has a code: this one at 0, those behind it from 1 on.
     Fault { offset: usize, code: Code },
+    /// Memory ran out.
     Memory,
 }
 
@@ -132,9 +135,21 @@ impl<T: Drop> From<AllocFailed<T>> for Stop {
 /// Why a text is no configuration.
 #[derive(Clone, Copy, Debug, PartialEq, Eq)]
 pub enum ConfigError {
-    /// The first faulty line, counted from 1, with its least code.
+    /// The first faulty line, counted from 1, with its least code, from 1 to 12 or from 21 to 29.
     Fault { line: u32, code: u8 },
+    /// Memory ran out.
     NoMemory,
+}
+
+impl fmt::Display for ConfigError {
+    fn fmt<W: fmt::Write>(&self, f: &mut fmt::Formatter<W>) -> fmt::Result {
+        match self {
+            ConfigError::Fault { line, code } => {
+                write!(f, "line {line} is at fault (code {code})")
+            }
+            ConfigError::NoMemory => f.write_str("out of memory"),
+        }
+    }
 }
 
 impl From<AllocError> for ConfigError {

@@ -15,6 +15,7 @@ ghost use Rattle.config_text.specs.Views.{class_view};
 
 use crate::config::{Item, Pool, ProcessLine};
 use crate::fault::Code;
+use crate::limits::{MAX_CYCLE, MAX_FRAMES, MAX_PAGES, MAX_RING, MAX_VOLUMES};
 use crate::words::{
     ClassWords, byte, event_item, has_misspelt, has_past, is_misspelt, is_outside, label,
     name_text, value,
@@ -92,7 +93,7 @@ fn pool_of(frames: &[u8], pages: &[u8], volume: &[u8]) -> Result<Pool, Code>
         return Err(Code::Number);
     }
     let (frames, pages, volume) = (value(frames), value(pages), value(volume));
-    if frames > 16 || pages > 32 || volume > 4 {
+    if frames > MAX_FRAMES || pages > MAX_PAGES || volume > MAX_VOLUMES {
         return Err(Code::Range);
     }
     Ok(Pool {
@@ -132,16 +133,10 @@ fn is_same(entry: &(ArrayString<16>, Label), name: &[u8], label: &Label) -> bool
 }
 
 /// Whether an earlier class has the name or the label.
-#[tactic(auto, using(crate::proofs::Entries::entries))]
 fn stood_before(entries: &[(ArrayString<16>, Label)], name: &[u8], label: &Label) -> bool
     ensures { result ≡ spec.stood_before (map entry_of entries.now) name.now label.now }
 {
-    for entry in entries {
-        if is_same(entry, name, label) {
-            return true;
-        }
-    }
-    false
+    entries.iter().any(|entry| is_same(entry, name, label))
 }
 
 /// Whether the label doesn't dominate that of class 0.
@@ -186,7 +181,7 @@ pub fn cycle_fault(keyword: &[u8], words: &[&[u8]], classes: u64) -> Result<(), 
     if !is_text(keyword, b"cycle") {
         return Err(Code::Form);
     }
-    if is_outside(1, 16, words.len() as u64) {
+    if is_outside(1, MAX_CYCLE, words.len() as u64) {
         return Err(Code::Form);
     }
     if has_misspelt(words) {
@@ -203,7 +198,7 @@ fn label_at(entries: &[(ArrayString<16>, Label)], class: u8) -> &Label
     requires { class < length entries.now }
     ensures { result.now ≡ label_of (map entry_of entries.now) class }
 {
-    &entries[class as usize].1
+    &entries[usize::from(class)].1
 }
 
 /// Whether c is at or below d, where both are classes of the entries.
@@ -221,7 +216,7 @@ pub fn brackets(r1: &[u8], r2: &[u8], r3: &[u8]) -> Option<Brackets>
         (λ b. (b ≡ spec.brackets_in r1.now r2.now r3.now) × (in_order (spec.brackets_in r1.now r2.now r3.now) ≡ true)) }
 {
     let (r1, r2, r3) = (value(r1), value(r2), value(r3));
-    if r1 <= r2 && r2 <= r3 && r3 <= 7 {
+    if r1 <= r2 && r2 <= r3 && r3 <= MAX_RING {
         return Some(Brackets {
             r1: r1 as u8,
             r2: r2 as u8,

@@ -5,6 +5,8 @@ mod config;
 mod draft;
 mod fault;
 mod judging;
+mod laws;
+mod limits;
 mod reading;
 mod stage;
 mod steps;
@@ -12,4 +14,5 @@ mod words;
 
 pub use config::{Config, GateLine, Item, Pool, ProcessLine, Script};
 pub use fault::ConfigError;
+pub use laws::config_laws;
 pub use reading::read_config;

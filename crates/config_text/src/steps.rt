@@ -2,8 +2,6 @@
 
 ghost use Rattle.std.specs.Prelude.{◌≡◌, ◌+◌, ◌-◌, ◌^◌, ◌<◌, length, drop};
 ghost use Rattle.text_lines.specs.Lines.{views, words_of};
-ghost use Rattle.script_asm.specs.declared.fault.Code.{Code as ScriptCode};
-ghost use Rattle.script_asm.specs.Script.{code_number as script_number};
 ghost use Rattle.config_text.specs.Place.{place_of};
 ghost use Rattle.config_text.specs.Rules.{is_end, body_of};
 ghost use Rattle.config_text.specs.Reading.{ScriptSteps, Steps, next_code};
@@ -12,7 +10,7 @@ use crate::config::Script;
 use crate::draft::{Draft, Taken};
 use crate::fault::{Code, Refusal, Stop, script_code};
 use crate::stage::Stage;
-use script_asm::{AsmError, read_lines};
+use script_asm::{AsmError, Code as ScriptCode, read_lines};
 use std::alloc::Global;
 use text_lines::{Words, is_allowed_line, is_text, word_list};
 
@@ -42,9 +40,9 @@ fn body_length(lines: &[&[u8]]) -> usize
     count
 }
 
-/// The code of a line by its number among those of scripts, where the lines are counted from 1.
-fn line_code(lines: &[&[u8]], number: usize, code: u8) -> Code
-    ensures { (c : ScriptCode) → code ≡ script_number c → result ≡ next_code c (drop (number - 1) (views lines.now)) }
+/// The code of the line of this number, counted from 1, that has this code as a line of a script.
+fn line_code(lines: &[&[u8]], number: usize, code: ScriptCode) -> Code
+    ensures { result ≡ next_code code (drop (number - 1) (views lines.now)) }
 {
     match lines.get(number.saturating_sub(1)) {
         Some(line) => {

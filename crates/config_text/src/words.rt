@@ -13,12 +13,10 @@ ghost use Rattle.config_text.specs.Place.{Place};
 ghost use Rattle.labels.specs.Label.{ClassEntry};
 
 use crate::config::Item;
+use crate::limits::MAX_EVENTS;
 use arrayvec::ArrayString;
 use labels::Label;
 use text_lines::{number, split_once};
-
-/// The most events of a schedule.
-pub const MAX_EVENTS: u64 = 4_194_304;
 
 /// The number that the word spells, 0 where it is misspelt.
 pub fn value(word: &[u8]) -> u64
@@ -42,29 +40,17 @@ pub fn is_misspelt(word: &[u8]) -> bool
 }
 
 /// Whether one of the words spells no number below 2 ^ 64.
-#[tactic(auto, using(text_lines::proofs::Passing::passing))]
 pub fn has_misspelt(words: &[&[u8]]) -> bool
     ensures { result ≡ list_any misspelt (views words.now) }
 {
-    for word in words {
-        if is_misspelt(word) {
-            return true;
-        }
-    }
-    false
+    words.iter().any(|word| is_misspelt(word))
 }
 
 /// Whether one of the words is no number below the limit.
-#[tactic(auto, using(text_lines::proofs::Passing::passing))]
 pub fn has_past(words: &[&[u8]], limit: u64) -> bool
     ensures { result ≡ spec.has_past limit (views words.now) }
 {
-    for word in words {
-        if value(word) >= limit {
-            return true;
-        }
-    }
-    false
+    words.iter().any(|word| value(word) >= limit)
 }
 
 /// Whether the number is below the first one or above the second.
@@ -179,7 +165,7 @@ fn is_no_event(word: &[u8]) -> bool
     event_parts(word).is_none()
 }
 
-/// Whether one of its numbers is misspelt.
+/// Whether one of the numbers of an event word is misspelt.
 fn is_misspelt_event(word: &[u8]) -> bool
     ensures { result ≡ spec.is_misspelt_event word.now }
 {
@@ -191,7 +177,7 @@ fn is_misspelt_event(word: &[u8]) -> bool
     }
 }
 
-/// Whether one of its numbers is out of its range.
+/// Whether one of the numbers of an event word is out of its range.
 fn is_outside_event(word: &[u8], processors: u64, classes: u64) -> bool
     ensures { result ≡ spec.is_outside_event processors classes word.now }
 {
@@ -234,42 +220,26 @@ pub fn event_item(word: &[u8]) -> Item
 }
 
 /// Whether one of the words isn't `P.C*N`.
-#[tactic(auto, using(text_lines::proofs::Passing::passing))]
 pub fn has_no_event(words: &[&[u8]]) -> bool
     ensures { result ≡ list_any spec.is_no_event (views words.now) }
 {
-    for word in words {
-        if is_no_event(word) {
-            return true;
-        }
-    }
-    false
+    words.iter().any(|word| is_no_event(word))
 }
 
-/// Whether one of their numbers is misspelt.
-#[tactic(auto, using(text_lines::proofs::Passing::passing))]
+/// Whether one of the numbers of the event words is misspelt.
 pub fn has_misspelt_event(words: &[&[u8]]) -> bool
     ensures { result ≡ list_any spec.is_misspelt_event (views words.now) }
 {
-    for word in words {
-        if is_misspelt_event(word) {
-            return true;
-        }
-    }
-    false
+    words.iter().any(|word| is_misspelt_event(word))
 }
 
-/// Whether one of their numbers is out of its range.
-#[tactic(auto, using(text_lines::proofs::Passing::passing))]
+/// Whether one of the numbers of the event words is out of its range.
 pub fn has_outside_event(words: &[&[u8]], processors: u64, classes: u64) -> bool
     ensures { result ≡ list_any (spec.is_outside_event processors classes) (views words.now) }
 {
-    for word in words {
-        if is_outside_event(word, processors, classes) {
-            return true;
-        }
-    }
-    false
+    words
+        .iter()
+        .any(|word| is_outside_event(word, processors, classes))
 }
 
 /// Whether so many events more are past the limit.

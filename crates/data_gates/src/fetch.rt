@@ -58,7 +58,7 @@ impl Fetch {
     ghost use Rattle.words_layout.specs.Words.{OfSegment};
     ghost use Rattle.turns.specs.Stands.{refusing};
     ghost use Rattle.policy.specs.Outcome.{Refused};
-    ghost use Rattle.gate_parts.specs.Replies.{begins, KnownTo, answers, reply_of};
+    ghost use Rattle.gate_parts.specs.Replies.{begins, KnownTo, IsKnown, answers, reply_of};
     ghost use Rattle.data_gates.specs.Fetching.{act_of, doing_of, fetch_shows};
 
     /// Makes the private tests. An empty place, or one that may be signalled alone, gives UnknownSegno.
@@ -88,6 +88,27 @@ impl Fetch {
             frame: 0,
             words: ArrayVec::new(),
         }
+    }
+
+    /// Begins again in place, as `start` does where the private tests pass: it is then the fetch of these words.
+    pub fn restart(&mut self, known: &Known, offset: u8, count: u8, pad: u8)
+        requires known { IsKnown known.now }
+        requires some { 1 ≤ count }
+        requires segment { offset + count ≤ 64 }
+        ensures act { act_of self.new ≡ LookAct known.now.class (OfSegment known.now.seg) (fetch_body known.now.seg offset count pad) }
+        ensures fresh { doing_of self.new ≡ Fresh }
+        ensures class { self.new.class ≡ known.now.class }
+    {
+        self.class = known.class;
+        self.seg = known.seg;
+        self.offset = offset;
+        self.count = count;
+        self.pad = pad;
+        self.refusal = None;
+        self.look = Look::new(Guard::Segment(known.class, known.seg));
+        self.rest = Rest::Shown(None);
+        self.frame = 0;
+        self.words.clear();
     }
 
     /// The gate that a private test refuses.

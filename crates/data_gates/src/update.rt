@@ -33,7 +33,6 @@ pub struct Update {
     offset: u8,
     count: u8,
     pad: u8,
-    words: [u64; 64],
     /// The first broken private test.
     refusal: Option<Rule>,
     turn: Turn,
@@ -44,6 +43,7 @@ pub struct Update {
     stored: u8,
     /// The count of writes, once it was raised.
     writes: u64,
+    words: [u64; 64],
     ghost guard_is: { turn.guard ≡ Guard.Segment class seg },
     ghost in_limits: { (class < 16) × IsIdentity seg × (offset + count ≤ 64) × (pad + count ≤ 64) × (frame < 16) × (1 ≤ count) },
     ghost held: { turn_is_held turn.part ≡ holds rest },
@@ -64,7 +64,7 @@ impl Update {
     ghost use Rattle.data_gates.specs.Data.{update_body};
     ghost use Rattle.turns.specs.Stands.{refusing};
     ghost use Rattle.policy.specs.Outcome.{Refused};
-    ghost use Rattle.gate_parts.specs.Replies.{begins, KnownTo, answers, reply_of};
+    ghost use Rattle.gate_parts.specs.Replies.{begins, KnownTo, IsKnown, answers, reply_of};
     ghost use Rattle.data_gates.specs.Updating.{act_of, doing_of, update_shows};
 
     /// Makes the private tests. An empty place, or one that may be signalled alone, gives UnknownSegno.
@@ -103,6 +103,40 @@ impl Update {
             stored: 0,
             writes: 0,
         }
+    }
+
+    /// Begins again in place, as `start` does where the private tests pass: it is then the update of these words by
+    /// a caller of the class.
+    pub fn restart(
+        &mut self,
+        class: u8,
+        known: &Known,
+        offset: u8,
+        count: u8,
+        pad: u8,
+        words: &[u64; 64],
+    )
+        requires class { class < 16 }
+        requires known { IsKnown known.now }
+        requires some { 1 ≤ count }
+        requires segment { offset + count ≤ 64 }
+        requires in_pad { pad + count ≤ 64 }
+        ensures act { act_of self.new ≡ SegmentTurn known.now.seg (update_body known.now.seg offset (part_of words.now pad count)) }
+        ensures fresh { doing_of self.new ≡ Fresh }
+        ensures class { self.new.class ≡ class }
+    {
+        self.class = class;
+        self.seg = known.seg;
+        self.offset = offset;
+        self.count = count;
+        self.pad = pad;
+        self.words = *words;
+        self.refusal = None;
+        self.turn = Turn::new(Guard::Segment(class, known.seg));
+        self.rest = Rest::Shown(None);
+        self.frame = 0;
+        self.stored = 0;
+        self.writes = 0;
     }
 
     /// The gate that a private test refuses.

@@ -2,14 +2,14 @@
 -- by segments and by frames.
 use Rattle.std.proofs.Common.{ℕ, zero, suc, ◌+◌, ◌≤◌, ◌<◌, Bool, true, false, ◌&&◌, List, [], ◌∷◌, ◌++◌, ◌≡◌, refl, sym, ap, ◌∙◌, map, arith, ◌⊎◌, inl, inr}
 use Rattle.std.specs.Prelude.{◌==◌, if◌then◌else◌, count_by}
-use Rattle.std.specs.List.{flat_map, sum_by}
-use Rattle.std.proofs.lemmas.Bool.{eqb-true, eqb-false, eq-eqb, ne_eqb, and_parts, both_ways, cases_Bool}
+use Rattle.std.specs.List.{flat_map}
+use Rattle.std.proofs.lemmas.Bool.{eq-eqb, ne_eqb, both_ways}
 use Rattle.std.proofs.lemmas.List.Sums.{sum_by-cons}
 use Rattle.lists.specs.Lists.{numbers_from, below}
 use Rattle.words_layout.specs.Segments.{seg, seg_number, same_seg}
 use Rattle.words_layout.specs.declared.segment.SegId.{SegId}
+use Rattle.words_layout.proofs.Names.{same_seg-true}
 use Rattle.class_model.specs.State.{identities}
-use Rattle.effect_laws.proofs.Same.{same_seg-true}
 
 -- 1 where the test holds
 abbrev pub one_if : Bool → ℕ

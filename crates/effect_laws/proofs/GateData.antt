@@ -9,6 +9,7 @@ use Rattle.words_layout.specs.Coding.{home_of}
 use Rattle.words_layout.specs.declared.segment.SegId.{SegId}
 use Rattle.words_layout.specs.declared.coding.Home.{Home}
 use Rattle.words_layout.specs.declared.coding.Home.TheVariants as H
+use Rattle.words_layout.proofs.Names.{same_seg-true, same_seg-refl}
 use Rattle.policy.specs.Outcome.{Outcome, Value, Words}
 use Rattle.policy.specs.Verdict.{◌⇒◌}
 use Rattle.policy.specs.declared.rule.Rule.TheVariants.{Gone, NotIn}
@@ -20,7 +21,7 @@ use Rattle.class_model.specs.State.{Part, Cell, CellHome, In, live_words, with_c
 use Rattle.class_model.specs.Step.{Effect, fetch_effect, update_effect, unless}
 use Rattle.machine.specs.Reading.{words_from}
 use Rattle.machine.specs.Stands.{Holds, ClassHolds, SegmentHolds, HomeHolds, names_frame}
-use Rattle.effect_laws.proofs.Same.{of_class_word, class_same, segment_same, same_seg-true, same_seg-refl}
+use Rattle.effect_laws.proofs.Same.{of_class_word, class_same, segment_same}
 
 -- loading n words in order
 pub run-load_words : (g : GuardedWords) (f at n : ℕ) (got : List ℕ) (pad : ℕ) →

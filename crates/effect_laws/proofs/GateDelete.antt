@@ -10,6 +10,7 @@ use Rattle.words_layout.specs.declared.coding.Alias.{Alias}
 use Rattle.words_layout.specs.Segments.{seg, same_seg}
 use Rattle.words_layout.specs.Words.{GuardedWord, GuardedWords, set_guarded, same_word, NextSerial, HomeOf, WritesOf, EntryOf, FrameTenant, FrameWord, PageTenant, PageWord}
 use Rattle.words_layout.specs.Coding.{home_of, entry_of, pack_home}
+use Rattle.words_layout.proofs.Names.{same_seg-true, same_seg-refl}
 use Rattle.policy.specs.Outcome.{Outcome, Value, Refused}
 use Rattle.policy.specs.Verdict.{◌⇒◌}
 use Rattle.policy.specs.declared.rule.Rule.TheVariants.{NotEmpty}
@@ -20,7 +21,7 @@ use Rattle.class_model.specs.Config.{Pool}
 use Rattle.class_model.specs.State.{Part, Cell, Deleted, entry_at, has_entry}
 use Rattle.class_model.specs.Step.{Effect, unless, delete_effect, deleted, emptied, with_entry}
 use Rattle.machine.specs.Stands.{Holds, SegmentHolds, HomeHolds, StoredHolds, IsTenant, names_frame, names_page, is_page}
-use Rattle.effect_laws.proofs.Same.{same_seg-refl, same_seg-true, segment_same}
+use Rattle.effect_laws.proofs.Same.{segment_same}
 use Rattle.effect_laws.proofs.GateData.{GateLaw, put-seg-both}
 use Rattle.effect_laws.proofs.Filling.{set-apart, run-check_entries}
 use Rattle.effect_laws.proofs.Rehomed.{Rehomed, rehomed, tenant_kept, tenant_freed}

@@ -9,14 +9,14 @@ use Rattle.words_layout.specs.declared.segment.SegId.{SegId}
 use Rattle.words_layout.specs.declared.coding.Home.{Home}
 use Rattle.words_layout.specs.declared.coding.Home.TheVariants as H
 use Rattle.words_layout.specs.declared.coding.Alias.{Alias}
-use Rattle.words_layout.specs.Words.{Guard, OfClass, OfSegment, GuardedWord, GuardedWords, set_guarded, NextSerial, HomeOf, WritesOf, EntryOf, FrameTenant, FrameWord, Words}
+use Rattle.words_layout.specs.Words.{OfSegment, GuardedWords, set_guarded, NextSerial, HomeOf, EntryOf, FrameWord, Words}
 use Rattle.words_layout.specs.Coding.{home_of, entry_of}
-use Rattle.policy.specs.Known.{Known, signals, usable, in_table, alias_brackets}
+use Rattle.policy.specs.Known.{Known, signals, usable, in_table}
 use Rattle.policy.specs.Outcome.{Outcome}
-use Rattle.policy.specs.Private.{fetch_tests, bounds_test, ring_read_test, brackets_of, entry_test}
-use Rattle.policy.specs.Known.{modifies, new_alias}
-use Rattle.words_layout.specs.Coding.{alias_in_range, size_in_range}
-use Rattle.policy.specs.declared.rule.Rule.TheVariants.{NotModify, RingWrite, BadClass, Compat, BadBrackets, BadSize}
+use Rattle.policy.specs.Private.{bounds_test, ring_read_test, brackets_of}
+use Rattle.policy.specs.Known.{new_alias}
+use Rattle.words_layout.specs.Coding.{alias_in_range}
+use Rattle.words_layout.proofs.Names.{same_seg-refl}
 use Rattle.effect_laws.proofs.GateTree.{create-atomic}
 use Rattle.class_model.specs.State.{with_cell}
 use Rattle.class_model.specs.Step.{with_entry}
@@ -37,7 +37,6 @@ use Rattle.effect_laws.proofs.CreateTests as T
 use Rattle.machine.specs.Machine.{ClassPart}
 use Rattle.machine.specs.Reading.{words_from}
 use Rattle.machine.specs.Stands.{Holds, HomeHolds, names_frame}
-use Rattle.effect_laws.proofs.Same.{same_seg-refl}
 use Rattle.effect_laws.proofs.GateData.{InRange, FitsHome, fetch-atomic, update-atomic, put-seg-both}
 use Rattle.effect_laws.proofs.GateTree.{make_known-atomic}
 use Rattle.effect_laws.proofs.Guards.{just, covers, frame_guard}

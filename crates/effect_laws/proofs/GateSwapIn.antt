@@ -1,5 +1,5 @@
 -- Swapin at one go, on words that hold the part of their class.
-use Rattle.std.proofs.Common.{ℕ, ◌+◌, ◌≤◌, ◌<◌, Bool, true, false, ◌&&◌, List, [], ◌∷◌, ◌≡◌, refl, sym, ap, subst, ◌∙◌, Option, Some, None, map, arith, ◌⊎◌, inl, inr, length}
+use Rattle.std.proofs.Common.{ℕ, ◌+◌, ◌≤◌, ◌<◌, Bool, true, false, List, [], ◌∷◌, ◌≡◌, refl, sym, ap, subst, ◌∙◌, Option, Some, None, arith, ◌⊎◌, inl, inr, length}
 use Rattle.std.specs.Prelude.{◌==◌, nat_le, replicate, unwrap_or}
 use Rattle.std.proofs.lemmas.Bool.{eq-eqb, eqb-true, ne_eqb, cases_eq, lt-ltb, le-leb}
 use Rattle.std.proofs.Math.ListN.{length-map}
@@ -11,6 +11,7 @@ use Rattle.words_layout.specs.Segments.{seg_number, same_seg}
 use Rattle.words_layout.specs.Words.{GuardedWord, GuardedWords, set_guarded, same_word, NextSerial, HomeOf, WritesOf, EntryOf, FrameTenant, FrameWord, PageTenant, PageWord}
 use Rattle.words_layout.specs.Coding.{home_of, pack_home, home_in_range, page_in_range}
 use Rattle.words_layout.proofs.CodingLaws.{home_of-pack_home}
+use Rattle.words_layout.proofs.Names.{same_seg-refl}
 use Rattle.policy.specs.Known.{Known}
 use Rattle.policy.specs.Outcome.{Outcome, Value, Refused}
 use Rattle.policy.specs.Verdict.{◌⇒◌}
@@ -23,7 +24,6 @@ use Rattle.class_model.specs.State.{Part, Cell, In, with_cell, is_deleted, is_de
 use Rattle.class_model.specs.Step.{Effect, unless, swap_in_effect}
 use Rattle.machine.specs.Reading.{words_from}
 use Rattle.machine.specs.Stands.{Holds, HomeHolds, StoredHolds, PageHolds, IsTenant, names_frame, names_page, is_page}
-use Rattle.effect_laws.proofs.Same.{same_seg-refl}
 use Rattle.effect_laws.proofs.GateData.{GateLaw}
 use Rattle.effect_laws.proofs.Filling.{filled, set-apart, run-zero_words, run-copy_words, filled-other, filled-row, zeros, FindsFree, FindsNone, finds}
 use Rattle.effect_laws.proofs.Rehomed.{Rehomed, rehomed, tenant_kept, tenant_taken}

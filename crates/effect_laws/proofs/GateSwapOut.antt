@@ -9,6 +9,7 @@ use Rattle.words_layout.specs.Segments.{seg_number, same_seg}
 use Rattle.words_layout.specs.Words.{GuardedWord, GuardedWords, set_guarded, same_word, NextSerial, HomeOf, WritesOf, EntryOf, FrameTenant, FrameWord, PageTenant, PageWord}
 use Rattle.words_layout.specs.Coding.{home_of, pack_home, home_in_range}
 use Rattle.words_layout.proofs.CodingLaws.{home_of-pack_home}
+use Rattle.words_layout.proofs.Names.{same_seg-refl}
 use Rattle.policy.specs.Known.{Known}
 use Rattle.policy.specs.Outcome.{Value, Refused}
 use Rattle.policy.specs.Verdict.{◌⇒◌}
@@ -21,7 +22,6 @@ use Rattle.class_model.specs.State.{Part, In, Stored, with_cell, is_deleted, is_
 use Rattle.class_model.specs.Step.{Effect, unless, swap_out_effect}
 use Rattle.machine.specs.Reading.{words_from}
 use Rattle.machine.specs.Stands.{Holds, HomeHolds, StoredHolds, PageHolds, IsTenant, names_frame, names_page, is_page}
-use Rattle.effect_laws.proofs.Same.{same_seg-refl}
 use Rattle.effect_laws.proofs.GateData.{GateLaw}
 use Rattle.effect_laws.proofs.Filling.{filled, set-apart, run-copy_words, filled-other, filled-row, FindsFree, FindsNone, finds}
 use Rattle.effect_laws.proofs.Rehomed.{Rehomed, rehomed, tenant_kept, tenant_taken, tenant_freed}

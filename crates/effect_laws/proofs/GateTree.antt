@@ -62,7 +62,7 @@ module _ (pool : Pool) (g : GuardedWords) (part : Part) (u : SegId) (e class : �
         | true ↦ λ k. (elim (f == e) as (λ t. (f == e) ≡ t → entry_of (if t then pack_entry (new_alias class b size n) else g (EntryOf v f)) ≡ entry_at after_cell f) [
           | true ↦ λ i. rw (eqb-true f e i) (ap (λ x. entry_of (pack_entry (new_alias class b size x))) same ∙ entry_of-pack_entry made (range (omega (arith, same, small)))
               ∙ sym (get_or-set_same (part.cell u).entries e (Some made) None eight))
-          | false ↦ λ i. rw (Rattle.effect_laws.proofs.Same.same_seg-true v u k) (holds.of_class.entries u f ∙ sym (get_or-set_other (part.cell u).entries e f (Some made) None (eqb-false f e i)))
+          | false ↦ λ i. rw (Rattle.words_layout.proofs.Names.same_seg-true v u k) (holds.of_class.entries u f ∙ sym (get_or-set_other (part.cell u).entries e f (Some made) None (eqb-false f e i)))
         ] refl)
         | false ↦ λ k. holds.of_class.entries v f
       ] refl

@@ -10,6 +10,7 @@ use Rattle.rings.specs.Brackets.{Brackets}
 use Rattle.words_layout.specs.Segments.{seg, same_seg}
 use Rattle.words_layout.specs.declared.segment.SegId.{SegId}
 use Rattle.words_layout.specs.declared.coding.Alias.{Alias}
+use Rattle.words_layout.proofs.Names.{same_seg-true, same_seg-refl}
 use Rattle.policy.specs.Known.{Known, new_alias}
 use Rattle.policy.specs.Outcome.{Value}
 use Rattle.policy.specs.Private.{brackets_of, create_tests}
@@ -22,7 +23,6 @@ use Rattle.class_model.specs.State.{State, Part, Cell, with_cell, with_part, ent
 use Rattle.class_model.specs.Step.{effect, with_entry}
 use Rattle.effect_laws.proofs.Good.{Given, InUse, EntryGood, CellGood, KnownGood, ProcessGood, Good}
 use Rattle.effect_laws.proofs.Planned.{Planned, Passed}
-use Rattle.effect_laws.proofs.Same.{same_seg-true, same_seg-refl}
 use Rattle.effect_laws.proofs.GateData.{put-seg-both}
 use Rattle.effect_laws.proofs.CreateTests.{passed_head}
 use Rattle.effect_laws.proofs.CreateTests as T

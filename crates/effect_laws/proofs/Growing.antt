@@ -9,7 +9,7 @@ use Rattle.words_layout.specs.declared.segment.SegId.{SegId}
 use Rattle.words_layout.specs.declared.coding.Alias.{Alias}
 use Rattle.policy.specs.Known.{Known}
 use Rattle.class_model.specs.Process.{Process}
-use Rattle.class_model.specs.State.{State, Part, Cell, with_part, with_process}
+use Rattle.class_model.specs.State.{State, Part, Cell, with_part}
 use Rattle.effect_laws.proofs.Good.{Given, InUse, EntryGood, WordsGood, CellGood, KnownGood, ProcessGood, RootGood, Good}
 
 -- a property of a table with one place changed
@@ -113,27 +113,3 @@ set-read (y ∷ ys) zero zero x r h = inl h
 set-read (y ∷ ys) zero (suc j) x r h = inr h
 set-read (y ∷ ys) (suc i) zero x r h = inr h
 set-read (y ∷ ys) (suc i) (suc j) x r h = set-read ys i j x r h
-
--- a process changes
-pub good_process : (n : ℕ) (a : State) (good : Good n a) (d p i : ℕ) (q : Process) → ProcessGood good.given a d q → Good n (with_part a d (with_process (a.part d) p i q))
-good_process n a good d p i q pg = good_with n n (omega arith) a good d (with_process (a.part d) p i q) good.given grows (good.serials d)
-    (λ u. grow_cell good.given good.given a (put a.part d (with_process (a.part d) p i q)) grows n n (omega arith) d u ((a.part d).cell u) (good.cells d u))
-    read (good.used d) (good.components d)
-  where
-    grows : Grows good.given good.given a (put a.part d (with_process (a.part d) p i q))
-    grows = keeps_all good.given a d (with_process (a.part d) p i q) (omega arith)
-
-    was : (x j : ℕ) (r : Process) → slice_index_or ((a.part d).slots x) j None ≡ Some r → ProcessGood good.given (with_part a d (with_process (a.part d) p i q)) d r
-    was x j r h = grow_process good.given good.given a (put a.part d (with_process (a.part d) p i q)) grows d r (good.processes (record { processor = x; class = d; slot = j }) r h)
-
-    one : (q' r : Process) → Some q' ≡ Some r → q' ≡ r
-    one q' r e = cc
-
-    read : (x j : ℕ) (r : Process) → slice_index_or ((with_process (a.part d) p i q).slots x) j None ≡ Some r → ProcessGood good.given (with_part a d (with_process (a.part d) p i q)) d r
-    read x j r = by_put (λ x (z : List (Option Process)). slice_index_or z j None ≡ Some r → ProcessGood good.given (with_part a d (with_process (a.part d) p i q)) d r)
-        (a.part d).slots p (slice_set ((a.part d).slots p) i (Some q)) x
-        (λ h. elim (set-read ((a.part d).slots p) i j (Some q) r h) [
-          | inl e ↦ subst (ProcessGood good.given (with_part a d (with_process (a.part d) p i q)) d) (one q r e) (grow_process good.given good.given a (put a.part d (with_process (a.part d) p i q)) grows d q pg)
-          | inr e ↦ was p j r e
-        ])
-        (λ e. was x j r)

@@ -1,10 +1,11 @@
 -- Sets of guards, the words that they guard, and words that the holders of some guards have changed.
 use Rattle.std.proofs.Common.{ℕ, ◌-◌, Bool, true, false, ◌&&◌, ◌||◌, ◌≡◌, refl, sym, ap, ◌∙◌, Option, Some, None, ◌⊎◌, inl, inr}
 use Rattle.std.specs.Prelude.{◌==◌, if◌then◌else◌}
-use Rattle.std.proofs.lemmas.Bool.{and_parts, and_from, eqb-true, eq-eqb, both_ways}
+use Rattle.std.proofs.lemmas.Bool.{and_parts, and_from, both_ways}
 use Rattle.words_layout.specs.Segments.{same_seg, numbered}
 use Rattle.words_layout.specs.Words.{Guard, OfClass, OfSegment, GuardedWord, GuardedWords, NextSerial, HomeOf, WritesOf, EntryOf, FrameTenant, FrameWord, PageTenant, PageWord, same_guard, same_word, set_guarded}
 use Rattle.words_layout.specs.declared.segment.SegId.{SegId}
+use Rattle.words_layout.proofs.Names.{same_guard-true, same_word-true}
 
 -- a set of guards of one class
 abbrev pub Hold : Type 0
@@ -129,30 +130,6 @@ mix c h now = over c h now c
 pub ext : (f g : GuardedWords) → ((w : GuardedWord) → f w ≡ g w) → f ≡ g
 ext f g each = λ k w. (each w) k
 
-pub same_seg-true : (u v : SegId) → same_seg u v ≡ true → u ≡ v
-same_seg-true u v h =
-    let parts : ((u.mentor == v.mentor) ≡ true) × ((u.serial == v.serial) ≡ true) = and_parts _ _ h in
-    let m : u.mentor ≡ v.mentor = eqb-true u.mentor v.mentor parts.0 in
-    let s : u.serial ≡ v.serial = eqb-true u.serial v.serial parts.1 in
-    λ i. record { mentor = m i; serial = s i }
-
-pub same_seg-refl : (u : SegId) → same_seg u u ≡ true
-same_seg-refl u = and_from _ _ (eq-eqb u.mentor u.mentor refl) (eq-eqb u.serial u.serial refl)
-
-pub same_word-true : (q w : GuardedWord) → same_word q w ≡ true → q ≡ w
-same_word-true NextSerial NextSerial h = refl
-same_word-true (HomeOf u) (HomeOf v) h = ap HomeOf (same_seg-true u v h)
-same_word-true (WritesOf u) (WritesOf v) h = ap WritesOf (same_seg-true u v h)
-same_word-true (EntryOf u e) (EntryOf v f) h =
-    let parts = and_parts (same_seg u v) (e == f) h in ap (λ x. EntryOf x e) (same_seg-true u v parts.0) ∙ ap (EntryOf v) (eqb-true e f parts.1)
-same_word-true (FrameTenant f) (FrameTenant g) h = ap FrameTenant (eqb-true f g h)
-same_word-true (FrameWord f i) (FrameWord g j) h =
-    let parts = and_parts (f == g) (i == j) h in ap (λ x. FrameWord x i) (eqb-true f g parts.0) ∙ ap (FrameWord g) (eqb-true i j parts.1)
-same_word-true (PageTenant f) (PageTenant g) h = ap PageTenant (eqb-true f g h)
-same_word-true (PageWord f i) (PageWord g j) h =
-    let parts = and_parts (f == g) (i == j) h in ap (λ x. PageWord x i) (eqb-true f g parts.0) ∙ ap (PageWord g) (eqb-true i j parts.1)
-same_word-true _ _ h = cc
-
 module _ (c : GuardedWords) (h : Hold) (v g : GuardedWords) (w : GuardedWord) (x : ℕ) where
   -- a word that is covered, stored before or after
   pub set_over : covers c h w ≡ true → set_guarded (over c h v g) w x ≡ over c h (set_guarded v w x) g
@@ -225,12 +202,6 @@ cover_back c c' h changed (EntryOf u e) k = k
 cover_back c c' h changed (FrameTenant f) k = k
 cover_back c c' h changed (PageTenant g) k = k
 cover_back c c' h changed (PageWord g i) k = k
-
-pub same_guard-true : (g h : Guard) → same_guard g h ≡ true → g ≡ h
-same_guard-true OfClass OfClass k = refl
-same_guard-true (OfSegment u) (OfSegment v) k = ap OfSegment (same_seg-true u v k)
-same_guard-true OfClass (OfSegment v) k = cc
-same_guard-true (OfSegment u) OfClass k = cc
 
 -- a guard that isn't in a set is apart from it
 pub apart_just : (h : Hold) (g : Guard) → h g ≡ false → Apart h (just g)

@@ -19,7 +19,7 @@ use Rattle.class_model.specs.Plan.{Plan, Own, Begin, Ask, Request, plan}
 use Rattle.process.specs.Running.{Running, act, plan_op, running_op, Absorbed, after_told, begin_in, plan_absorbed, doing_absorbed}
 use Rattle.machine.specs.Machine.{ClassPart, slot_at, free_slot, vp_absorbed}
 use Rattle.machine.specs.Stands.{NotInTurn, NoTurn}
-use Rattle.effect_laws.proofs.Guards.{Hold, just, both, inner_hold, covers, may_store, Apart, Changed, mix, ext, over-covered, set_over, store_covers, cover_more, class_in_both, same_seg-true}
+use Rattle.effect_laws.proofs.Guards.{Hold, just, both, inner_hold, covers, may_store, Apart, Changed, mix, ext, over-covered, set_over, store_covers, cover_more, class_in_both}
 use Rattle.effect_laws.proofs.Paths.{LoadsPath, InnerPath, OuterPath, LoadsWithin, InnerWithin, OuterWithin, loads_along, inner_along, outer_along, loads_run, inner_run, outer_run, inner_changed, outer_changed}
 use Rattle.effect_laws.proofs.StepKinds.{writing, Kind, calm, store, commit, outer_kept, inner_kept, loads_kept, Nested, nested_kept, nested_changed, idle_kept}
 use Rattle.effect_laws.proofs.Turns.{TicketOk, Held, SlotHeld, at_slot, SlotIs, mine, born, kept}
@@ -87,9 +87,6 @@ module _ (s : Shared) (n : ℕ) (m : ℕ → ClassPart) (before : ℕ → Guarde
   nested_rest u body rest asks nest = inner_along c0 (both u) nest.0 nest.1 rest (mix c0 (both u) n0) nest.3
       (outer_along c0 body c0 (Outer.Enter u nest.0) nest.1 nest.2 (fair.of_class asks.request body asks.planned asks.done_so))
 
-  same_hold : (h : Hold) (g : Guard) → h g ≡ false → h g ≡ false
-  same_hold h g k = k
-
   -- what the step does to the words
   fresh_kind : KindAt Fresh
   fresh_kind = subst (Kind c0 n0 (writing Fresh) (writing (new_at Fresh)) c0) (sym (plan_calm s d p0.ring (m d).words (plan s d p0))) (calm (λ g k. refl))
@@ -141,7 +138,7 @@ module _ (s : Shared) (n : ℕ) (m : ℕ → ClassPart) (before : ℕ → Guarde
     pub known_of : DoingOk s d m before p0 x
     known_of = rw is.there at (inv.slots d p i)
 
-    kind_of : KindAt x
+    pub kind_of : KindAt x
     kind_of = kind_known x known_of
 
     pub small : p < 4
@@ -452,7 +449,7 @@ module _ (s : Shared) (n : ℕ) (m : ℕ → ClassPart) (before : ℕ → Guarde
   inner_third_ok within u t body is true e = turn_new (InnerThird within u t body) p0 (InnerBody within u t body) (arrived within still (known_of (InnerThird within u t body) is))
     where
       held : Held (stage (OfSegment u) (InnerThird within u t body)) ((m d).words.finished (OfSegment u))
-      held = rw (Rattle.effect_laws.proofs.Guards.same_seg-refl u) (sym (eqb-true ((m d).words.finished (OfSegment u)) t e))
+      held = rw (Rattle.words_layout.proofs.Names.same_seg-refl u) (sym (eqb-true ((m d).words.finished (OfSegment u)) t e))
 
       still : (w : GuardedWord) → covers c0 (just (OfSegment u)) w ≡ true → n0 w ≡ c0 w
       still = inv.idle d (OfSegment u) (free_here (InnerThird within u t body) is (OfSegment u) held (outer_not_segment within u))

@@ -1,22 +1,23 @@
 -- The opening of a valid configuration is good: its records give sizes and brackets.
-use Rattle.std.proofs.Common.{ℕ, ◌+◌, ◌≤◌, ◌<◌, Bool, true, false, not, ◌&&◌, ◌||◌, List, [], ◌∷◌, ◌≡◌, refl, sym, ap, subst, ◌∙◌, Option, Some, None, arith, length}
-use Rattle.std.specs.Prelude.{◌==◌, if◌then◌else◌, cond, nat_lt, max, fold}
+use Rattle.std.proofs.Common.{ℕ, ◌+◌, ◌≤◌, ◌<◌, Bool, true, false, not, ◌&&◌, List, [], ◌∷◌, ◌≡◌, refl, sym, ap, subst, ◌∙◌, Option, Some, None, arith, length}
+use Rattle.std.specs.Prelude.{◌==◌, if◌then◌else◌, cond, max, fold}
 use Rattle.std.specs.List.{find, list_all}
 use Rattle.std.specs.Option.{option_map, option_map_or, option_and_then}
 use Rattle.std.proofs.Math.ListN.{get_or-map}
-use Rattle.std.proofs.lemmas.Bool.{and_parts, and_from, eqb-true, eq-eqb, both_ways}
+use Rattle.std.proofs.lemmas.Bool.{and_parts, and_from, eqb-true, eq-eqb}
 use Rattle.lists.specs.Lists.{below}
 use Rattle.labels.specs.Label.{at_or_below}
 use Rattle.rings.specs.Brackets.{in_order}
 use Rattle.words_layout.specs.Segments.{seg, same_seg}
 use Rattle.words_layout.specs.declared.segment.SegId.{SegId}
 use Rattle.words_layout.specs.declared.coding.Alias.{Alias}
+use Rattle.words_layout.proofs.Names.{same_seg-true, same_seg-refl}
 use Rattle.policy.specs.Known.{Known}
 use Rattle.class_model.specs.Config.{Config, SegRecord, shared_of}
 use Rattle.class_model.specs.Process.{Process, ProcName, new_process, known_at}
-use Rattle.class_model.specs.Run.{record_of, kept_of, alias_of, opening_entry, opening_cell, opening_serial, opening_slots, opening_part, opening}
+use Rattle.class_model.specs.Run.{record_of, kept_of, alias_of, opening_entry, opening_cell, opening_slots, opening}
 use Rattle.class_model.specs.State.{In, process_at}
-use Rattle.class_model.specs.Valid.{IsConfig, record_ok, is_root, mentor_ok, within}
+use Rattle.class_model.specs.Valid.{IsConfig, record_ok, is_root}
 use Rattle.process.specs.Running.{Running}
 use Rattle.process.specs.Fits.{Fits}
 use Rattle.machine.specs.Machine.{slot_at}
@@ -26,23 +27,21 @@ use Rattle.flow_laws.proofs.Lists.{made_of_one, made_some}
 use Rattle.flow_laws.proofs.OpeningFits.{FromLine, from_line, opening_all_fit}
 use Rattle.flow_laws.proofs.Records.{IsRecord, is_record}
 use Rattle.flow_laws.proofs.Sound.{sound_config, some_class}
-use Rattle.report_laws.proofs.Paged.{segs_apart, find_passes}
-use Rattle.report_laws.proofs.Recorded.{valid_records}
-use Rattle.report_laws.proofs.Taken.{find_true}
-use Rattle.effect_laws.proofs.Same.{same_seg-true, same_seg-refl}
+use Rattle.report_laws.proofs.Paged.{find_true, segs_apart, find_passes}
+use Rattle.report_laws.proofs.Recorded.{record_stands, valid_records}
 use Rattle.effect_laws.proofs.Good.{Given, InUse, EntryGood, WordsGood, CellGood, KnownGood, ProcessGood, RootGood, Good, at_rest}
 use Rattle.effect_laws.proofs.GoodPlan.{new_knows}
 
 -- ---- the next serial
 
 -- the next serial behind one record more
-abbrev rises : ℕ → ℕ → SegRecord → ℕ
+abbrev pub rises : ℕ → ℕ → SegRecord → ℕ
 rises c n r = if r.seg.mentor == c then max n (r.seg.serial + 1) else n
 
-one_rises : (c n : ℕ) (r : SegRecord) → n ≤ rises c n r
+pub one_rises : (c n : ℕ) (r : SegRecord) → n ≤ rises c n r
 one_rises c n r = elim (r.seg.mentor == c) as (λ b. n ≤ (if b then max n (r.seg.serial + 1) else n)) [ true ↦ omega arith | false ↦ omega arith ]
 
-serial_least : (c n : ℕ) (rs : List SegRecord) → n ≤ fold (rises c) n rs
+pub serial_least : (c n : ℕ) (rs : List SegRecord) → n ≤ fold (rises c) n rs
 serial_least c n [] = omega arith
 serial_least c n (r ∷ rs) = let a = one_rises c n r in let b = serial_least c (rises c n r) rs in omega (arith, a, b)
 
@@ -71,7 +70,7 @@ serial_below c n test (x ∷ xs) r h e = by_test (test x) h (serial_below c (ris
 
 -- ---- records
 
-same_seg-sym : (u v : SegId) → same_seg u v ≡ true → same_seg v u ≡ true
+pub same_seg-sym : (u v : SegId) → same_seg u v ≡ true → same_seg v u ≡ true
 same_seg-sym u v h = subst (λ z. same_seg v z ≡ true) (sym (same_seg-true u v h)) (same_seg-refl v)
 
 -- a record that is found is the one of its class and identity
@@ -116,21 +115,6 @@ module _ (k : Config) (valid : IsConfig k) where
   record_used : (test : SegRecord → Bool) (r : SegRecord) → find test k.records ≡ Some r → InUse (opening k) r.seg
   record_used test r h = record { mentor = (is_record k r (recorded test r h)).mentor; serial = serial_below r.seg.mentor (if r.seg.mentor == 0 then 1 else 0) test k.records r h refl }
 
-  not_root : (r : SegRecord) → record_ok k r ≡ true → not (is_root r.seg) ≡ true
-  not_root r h =
-      let a1 = and_parts _ (mentor_ok k r) h in
-      let a2 = and_parts _ (option_map_or (λ (words : List ℕ). length words == r.size) r.kept true) a1.0 in
-      let a3 = and_parts _ (not (r.mentor.mentor == r.seg.mentor) || nat_lt r.mentor.serial r.seg.serial) a2.0 in
-      let a4 = and_parts _ (at_or_below k.table r.mentor.mentor r.seg.mentor) a3.0 in
-      let a5 = and_parts _ (nat_lt r.entry 8) a4.0 in
-      let a6 = and_parts _ (nat_lt r.mentor.serial 64) a5.0 in
-      let a7 = and_parts _ (within 1 64 r.size) a6.0 in
-      let a8 = and_parts _ (in_order r.brackets) a7.0 in
-      let a9 = and_parts _ (at_or_below k.table r.seg.mentor r.class) a8.0 in
-      let b1 = and_parts _ (nat_lt r.mentor.mentor (length k.table)) a9.0 in
-      let b2 = and_parts _ (nat_lt r.class (length k.table)) b1.0 in
-      let b3 = and_parts _ (not (is_root r.seg)) b2.0 in b3.1
-
   no_root : record_of k 0 (seg 0 0) ≡ None
   no_root = by_found (record_of k 0 (seg 0 0)) refl
     where
@@ -142,7 +126,7 @@ module _ (k : Config) (valid : IsConfig k) where
       by_found None e = refl
       by_found (Some r) e =
           let both = and_parts (r.class == 0) (same_seg r.seg (seg 0 0)) (find_true (λ (x : SegRecord). x.class == 0 && same_seg x.seg (seg 0 0)) k.records r e) in
-          absurd (clash (is_root r.seg) (not_root r (recorded (λ (x : SegRecord). x.class == 0 && same_seg x.seg (seg 0 0)) r e)) both.1)
+          absurd (clash (is_root r.seg) (record_stands k r (recorded (λ (x : SegRecord). x.class == 0 && same_seg x.seg (seg 0 0)) r e)).other both.1)
 
   root_good : RootGood given (opening k)
   root_good = record {

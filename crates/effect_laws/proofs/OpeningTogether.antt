@@ -107,6 +107,6 @@ module _ (k : Config) (valid : IsConfig k) where
       processes = λ d p. processes_rest (opening_slots k d p);
       holds = λ d. opening_holds k (valid_records k valid) d;
       counters = λ d. record { places = refl; components = λ x u. refl; sequencers = λ u. refl };
-      printing = λ d. record { short = λ p. omega arith; each = λ h. refl; within = omega arith; at = λ q. refl };
+      printing = λ d. record { short = λ p. omega arith; each = λ h. refl; within = omega arith; count = refl; at = λ q. refl };
     };
   }

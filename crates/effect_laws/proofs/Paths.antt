@@ -2,10 +2,11 @@
 use Rattle.std.proofs.Common.{ℕ, ◌+◌, ◌%◌, ◌^◌, true, false, ◌≡◌, refl, sym, ap, subst, ◌∙◌, ◌⊎◌, inl, inr}
 use Rattle.std.specs.Prelude.{if◌then◌else◌}
 use Rattle.words_layout.specs.Words.{OfClass, GuardedWord, GuardedWords, same_word, set_guarded}
+use Rattle.words_layout.proofs.Names.{same_word-true}
 use Rattle.policy.specs.Outcome.{Outcome}
 use Rattle.turns.specs.Bodies.{Loads, Inner, Outer}
 use Rattle.turns.specs.AtOnce.{run_loads, run_inner, run_outer}
-use Rattle.effect_laws.proofs.Guards.{Hold, just, both, covers, may_store, store_covers, Changed, over, ext, set_over, over-covered, same_word-true}
+use Rattle.effect_laws.proofs.Guards.{Hold, just, both, covers, may_store, store_covers, Changed, over, ext, set_over, over-covered}
 
 -- from words g a body b comes to rest and words v; c says which words the guards h cover
 pub data LoadsPath (c : GuardedWords) (h : Hold) (b : Loads Outcome) : Loads Outcome → Type 0 where

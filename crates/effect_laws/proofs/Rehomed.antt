@@ -8,11 +8,12 @@ use Rattle.words_layout.specs.declared.coding.Home.TheVariants as H
 use Rattle.words_layout.specs.Segments.{seg_number, same_seg}
 use Rattle.words_layout.specs.Words.{GuardedWords, NextSerial, HomeOf, WritesOf, EntryOf, FrameTenant, FrameWord, PageTenant, PageWord}
 use Rattle.words_layout.specs.Coding.{home_of, entry_of}
+use Rattle.words_layout.proofs.Names.{same_seg-true}
 use Rattle.class_model.specs.Config.{Pool}
 use Rattle.class_model.specs.State.{Part, Cell, entry_at, with_cell}
 use Rattle.machine.specs.Reading.{words_from}
 use Rattle.machine.specs.Stands.{Holds, SegmentHolds, StoredHolds, HomeHolds, names_frame, names_page, IsTenant}
-use Rattle.effect_laws.proofs.Same.{same_seg-true, segment_same}
+use Rattle.effect_laws.proofs.Same.{segment_same}
 use Rattle.effect_laws.proofs.GateData.{put-seg-both}
 
 -- a test of an identity, by whether it is u

@@ -1,11 +1,9 @@
 -- Words that hold what a part is go on to hold it where what they hold of it is the same.
 use Rattle.std.proofs.Common.{ℕ, Bool, true, false, List, ◌≡◌, refl, sym, ap, subst, ◌∙◌, Option, Some, None}
-use Rattle.std.specs.Prelude.{◌==◌}
-use Rattle.std.proofs.lemmas.Bool.{eq-eqb, eqb-true, and_parts, and_from}
+use Rattle.std.proofs.lemmas.Bool.{eq-eqb}
 use Rattle.words_layout.specs.declared.segment.SegId.{SegId}
 use Rattle.words_layout.specs.declared.coding.Home.{Home}
 use Rattle.words_layout.specs.declared.coding.Home.TheVariants as H
-use Rattle.words_layout.specs.Segments.{same_seg}
 use Rattle.words_layout.specs.Words.{GuardedWord, GuardedWords, NextSerial, HomeOf, WritesOf, EntryOf, FrameTenant, FrameWord, PageTenant, PageWord}
 use Rattle.words_layout.specs.Coding.{home_of, entry_of}
 use Rattle.class_model.specs.Config.{Pool}
@@ -69,14 +67,3 @@ segment_same c n u cell home writes word k = record {
       where
         names : names_frame (home_of (c (HomeOf u))) f ≡ true
         names = rw e (eq-eqb f f refl)
-
--- the same identity is the same
-pub same_seg-true : (u v : SegId) → same_seg u v ≡ true → u ≡ v
-same_seg-true u v h =
-    let parts : ((u.mentor == v.mentor) ≡ true) × ((u.serial == v.serial) ≡ true) = and_parts _ _ h in
-    let m : u.mentor ≡ v.mentor = eqb-true u.mentor v.mentor parts.0 in
-    let s : u.serial ≡ v.serial = eqb-true u.serial v.serial parts.1 in
-    λ i. record { mentor = m i; serial = s i }
-
-pub same_seg-refl : (u : SegId) → same_seg u u ≡ true
-same_seg-refl u = and_from _ _ (eq-eqb u.mentor u.mentor refl) (eq-eqb u.serial u.serial refl)

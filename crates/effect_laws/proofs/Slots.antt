@@ -1,7 +1,7 @@
 -- What the step of a virtual processor does to the slots of its class.
-use Rattle.std.proofs.Common.{ℕ, zero, suc, ◌+◌, ◌%◌, ◌<◌, ◌≢◌, Bool, true, false, List, [], ◌∷◌, ◌≡◌, refl, sym, ap, ◌∙◌, Option, Some, None, cond, arith, ◌⊎◌, inl, inr, length, map}
+use Rattle.std.proofs.Common.{ℕ, zero, suc, ◌+◌, ◌%◌, ◌<◌, ◌≢◌, true, false, List, [], ◌∷◌, ◌≡◌, refl, sym, ap, ◌∙◌, Option, Some, None, arith, ◌⊎◌, inl, inr, length, map}
 use Rattle.std.specs.Prelude.{◌==◌, if◌then◌else◌, slice_index_or, slice_set, is_none}
-use Rattle.std.specs.List.{find, sum_by}
+use Rattle.std.specs.List.{sum_by}
 use Rattle.std.specs.Option.{option_map}
 use Rattle.std.proofs.lemmas.Bool.{eqb-true, eqb-false}
 use Rattle.std.proofs.lemmas.List.{get_or-set_same, get_or-set_other}
@@ -16,15 +16,8 @@ use Rattle.turns.specs.Doing.{Fresh}
 use Rattle.turns.specs.Stage.{Stage, stage, inside}
 use Rattle.process.specs.Running.{Running, Made, Line, Child, Absorbed, absorb, next_op}
 use Rattle.machine.specs.Machine.{ClassPart, VirtualProcessor, slot_at, is_live, live_slot, turn_of, chosen, free_slot, slots_after, vp_absorbed, vp_chosen, part_step}
+use Rattle.report_laws.proofs.Paged.{find_true}
 use Rattle.effect_laws.proofs.Turns.{at_slot, SlotIs, mine, born, kept}
-
--- what find finds passes the test
-pub find-true : {X : Type 0} (test : X → Bool) (xs : List X) (x : X) → find test xs ≡ Some x → test x ≡ true
-find-true test [] x h = cc
-find-true test (y ∷ ys) x h = elim (test y) as (λ b. test y ≡ b → cond b (Some y) (find test ys) ≡ Some x → test x ≡ true) [
-  | true ↦ λ e k. let same : y ≡ x = cc in rw (← same) e
-  | false ↦ λ e k. find-true test ys x k
-] refl h
 
 -- a slot with a process is one of the list
 pub slot-below : (slots : List (Option Running)) (i : ℕ) (r : Running) → slice_index_or slots i None ≡ Some r → i < length slots
@@ -50,7 +43,7 @@ chosen-is v i r h = by_live (live_slot v) refl h
 
     by_live : (o : Option ℕ) → live_slot v ≡ o → turn_of v o ≡ Some (i, r) → IsChosen v i r
     by_live None e h = cc
-    by_live (Some k) e h = by_slot k (slot_at v k) refl (find-true (λ i. is_live (slot_at v i)) (map (λ j. (v.current + j) % 4) (below 4)) k e) h
+    by_live (Some k) e h = by_slot k (slot_at v k) refl (find_true (λ i. is_live (slot_at v i)) (map (λ j. (v.current + j) % 4) (below 4)) k e) h
 
 -- a child is made only for the least slot that never held a process
 abbrev pub FitsMade : VirtualProcessor → Made → Type 0

@@ -9,12 +9,13 @@ use Rattle.words_layout.specs.declared.coding.Home.TheVariants as H
 use Rattle.words_layout.specs.Segments.{seg_number, numbered}
 use Rattle.words_layout.specs.Words.{OfClass, OfSegment, GuardedWord, GuardedWords, NextSerial, HomeOf, WritesOf, EntryOf, FrameTenant, FrameWord, PageTenant, PageWord}
 use Rattle.words_layout.specs.Coding.{home_of}
+use Rattle.words_layout.proofs.Names.{same_seg-refl}
 use Rattle.class_model.specs.Config.{Shared, pool_of}
 use Rattle.class_model.specs.State.{State, CellHome}
 use Rattle.machine.specs.Machine.{ClassPart}
 use Rattle.machine.specs.Stands.{ClassHolds, SegmentHolds, HomeHolds, NoTurn, names_frame}
 use Rattle.effect_laws.proofs.Same.{of_class_word, class_same, segment_same}
-use Rattle.effect_laws.proofs.Guards.{just, covers, frame_guard, same_seg-refl}
+use Rattle.effect_laws.proofs.Guards.{just, covers, frame_guard}
 use Rattle.effect_laws.proofs.Turns.{at_slot}
 use Rattle.effect_laws.proofs.Committed.{free_outside}
 use Rattle.effect_laws.proofs.WholeRun.{Together}

@@ -13,6 +13,7 @@ use Rattle.machine.specs.Machine.{Machine, step, run}
 use Rattle.machine.specs.Opening.{opening, machine, effects}
 use Rattle.machine.specs.Stands.{StandsFor, PartStands}
 use Rattle.report_laws.proofs.Printing.{printed_is}
+use Rattle.effect_laws.specs.Lines.{HasLines}
 use Rattle.effect_laws.proofs.Good.{Good, InUse}
 use Rattle.effect_laws.proofs.Growing.{good_more}
 use Rattle.effect_laws.proofs.GoodStep.{good_step}
@@ -74,6 +75,9 @@ module _ (k : Config) (valid : IsConfig k) (events : List Event) (few : length e
 
   pub good_after : Good (0 + length events) (whole_run k (effects k events))
   good_after = good
+
+  pub lines_after : (d : ℕ) → HasLines k.console ((machine k events).part d) ((whole_run k (effects k events)).part d).lines
+  lines_after d = let h = together.agrees.printing d in record { each = h.at; count = h.count; few = h.within }
 
   pub stands_after : StandsFor (machine k events) (whole_run k (effects k events))
   stands_after = record {

@@ -4,10 +4,11 @@ use Rattle.std.specs.Prelude.{if◌then◌else◌}
 use Rattle.std.proofs.lemmas.Bool.{both_ways, false_from_ne_true}
 use Rattle.words_layout.specs.Words.{Guard, OfClass, GuardedWord, GuardedWords, same_word, set_guarded}
 use Rattle.words_layout.specs.declared.segment.SegId.{SegId}
+use Rattle.words_layout.proofs.Names.{same_word-true}
 use Rattle.policy.specs.Outcome.{Outcome}
 use Rattle.turns.specs.Bodies.{Loads, Inner, Outer}
 use Rattle.turns.specs.Doing.{Doing, OuterBody, InnerSecond, InnerThird, InnerBody}
-use Rattle.effect_laws.proofs.Guards.{Hold, just, both, inner_hold, covers, may_store, store_apart, Apart, Changed, covers_same, store_same, covered_same, over, mix, ext, over_set, same_word-true, cover_more, store_more, cover_back, apart_just, just_in, class_in_both, uncovered_same}
+use Rattle.effect_laws.proofs.Guards.{Hold, just, both, inner_hold, covers, may_store, store_apart, Apart, Changed, covers_same, store_same, covered_same, over, mix, ext, over_set, cover_more, store_more, cover_back, apart_just, just_in, class_in_both, uncovered_same}
 use Rattle.effect_laws.proofs.Paths.{LoadsPath, InnerPath, OuterPath, loads_move, inner_move, outer_move, inner_changed, outer_changed}
 
 -- the guards of whose words a process may have changed some that aren't committed

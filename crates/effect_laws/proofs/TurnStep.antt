@@ -5,6 +5,7 @@ use Rattle.std.proofs.lemmas.Bool.{eqb-true}
 use Rattle.words_layout.specs.Segments.{same_seg}
 use Rattle.words_layout.specs.declared.segment.SegId.{SegId}
 use Rattle.words_layout.specs.Words.{Guard, OfClass, OfSegment, Words, WordOp, words_after, answer_to}
+use Rattle.words_layout.proofs.Names.{same_seg-true}
 use Rattle.policy.specs.Outcome.{Outcome, Printed}
 use Rattle.turns.specs.Bodies.{Loads, Inner, Outer}
 use Rattle.turns.specs.Doing.{Doing, Fresh, LookSecond, LookBody, OuterSecond, OuterThird, OuterBody, InnerSecond, InnerThird, InnerBody, Leaving, Told, going, poll, done, left, act_op, act_told, doing_op, doing_told, look_op, look_told, outer_op, outer_told, inner_op, inner_told}
@@ -14,7 +15,6 @@ use Rattle.class_model.specs.Process.{Process}
 use Rattle.class_model.specs.Plan.{Plan, Own, Begin, Ask, Request, MakeKnown, Create, Delete, SwapIn, SwapOut, Fetch, Update, Read, Advance, Ticket, Out, plan}
 use Rattle.process.specs.Running.{Running, act, plan_op, running_op, next_op, Absorbed, absorb, made_of, begin_in, plan_absorbed, doing_absorbed}
 use Rattle.machine.specs.Machine.{ClassPart, VirtualProcessor, free_slot}
-use Rattle.effect_laws.proofs.Guards.{same_seg-true}
 use Rattle.effect_laws.proofs.Turns.{TicketOk, Held, Turns, turns_after}
 use Rattle.effect_laws.proofs.Slots.{IsChosen, FitsMade, part_after, slots-after, heft, weight, count_inside, inside-after}
 
@@ -114,9 +114,6 @@ module _ (d : ℕ) (w : Words) (words : ℕ → Words) (own : words d ≡ w)
     (order : w.finished OfClass ≤ w.tickets OfClass) (s_small : w.started OfClass < 2 ^ 64 - 1) (t_small : w.tickets OfClass < 2 ^ 64 - 1) where
   c_still : (x : Stage) → OkAt OfClass w x → After OfClass w WordOp.Nothing x x
   c_still x ok = same (w.started OfClass) (w.finished OfClass) (w.tickets OfClass) order s_small t_small x ok
-
-  c_begins : After OfClass w (WordOp.Add (Rattle.words_layout.specs.Words.Started OfClass) 1) Outside Begun
-  c_begins = begins (w.started OfClass) (w.finished OfClass) (w.tickets OfClass) order s_small t_small
 
   c_choice : (b : Bool) (x y : Doing Outcome) → (z : Stage) → OkAt OfClass w z → stage OfClass x ≡ z → stage OfClass y ≡ z →
       After OfClass w WordOp.Nothing z (stage_told OfClass (if b then going x else poll y))
@@ -263,9 +260,6 @@ module _ (g : Guard) (s : Shared) (d : ℕ) (w : Words) (words : ℕ → Words) 
   g_still = same (w.started g) (w.finished g) (w.tickets g) order s_small t_small Outside tt
 
   module _ (p : Process) (free : Option ℕ) where
-    new_stage : Absorbed → Stage
-    new_stage x = stage g x.running.doing
-
     class_begins : (h : Guard) → w.finished h ≤ w.tickets h → w.started h < 2 ^ 64 - 1 → w.tickets h < 2 ^ 64 - 1 →
         After h w (WordOp.Add (Rattle.words_layout.specs.Words.Started OfClass) 1) Outside (at_class h Begun)
     class_begins OfClass a b c = begins (w.started OfClass) (w.finished OfClass) (w.tickets OfClass) a b c

@@ -9,6 +9,7 @@ use Rattle.words_layout.specs.declared.coding.Home.TheVariants as H
 use Rattle.words_layout.specs.declared.coding.Alias.{Alias}
 use Rattle.words_layout.specs.Words.{GuardedWord, GuardedWords, set_guarded, HomeOf, EntryOf, FrameTenant, FrameWord, PageTenant, PageWord}
 use Rattle.words_layout.specs.Coding.{home_of, entry_of, pack_home}
+use Rattle.words_layout.proofs.Names.{same_seg-refl}
 use Rattle.policy.specs.Known.{Known}
 use Rattle.policy.specs.Outcome.{Outcome}
 use Rattle.policy.specs.declared.rule.Rule.TheVariants.{NoFrame, NoPage}
@@ -19,7 +20,6 @@ use Rattle.class_model.specs.State.{State}
 use Rattle.effect_laws.proofs.Good.{Good}
 use Rattle.machine.specs.Machine.{ClassPart}
 use Rattle.machine.specs.Stands.{names_frame}
-use Rattle.effect_laws.proofs.Same.{same_seg-refl}
 use Rattle.effect_laws.proofs.Guards.{both, covers, may_store, frame_guard}
 use Rattle.effect_laws.proofs.Paths.{InnerWithin, OuterWithin}
 use Rattle.effect_laws.proofs.Refinement.{Standing}

@@ -18,13 +18,14 @@ use Rattle.machine.specs.Machine.{ClassPart}
 use Rattle.machine.specs.Stands.{Holds}
 use Rattle.effect_laws.specs.Alone.{WordsHold, IsReached, alone}
 use Rattle.effect_laws.specs.Laws.{BodiesAreWhole, RunsStand, SectionsAreLow, ReportsAreLow}
+use Rattle.effect_laws.specs.Lines.{LinesStand}
 use Rattle.effect_laws.proofs.Planned.{planned}
 use Rattle.effect_laws.proofs.Good.{Good}
 use Rattle.effect_laws.proofs.Committed.{put-here}
 use Rattle.effect_laws.proofs.Refinement.{Standing, IsEffect, holds_on}
 use Rattle.effect_laws.proofs.AllLaws.{class_law, segment_law, look_law}
 use Rattle.effect_laws.proofs.SectionsLow.{sections_low, reports_low}
-use Rattle.effect_laws.proofs.StandsAfter.{good_run, stands_after}
+use Rattle.effect_laws.proofs.StandsAfter.{good_run, stands_after, lines_after}
 
 -- a slot with a process is one of the list
 slot_within : (slots : List (Option Process)) (i : ℕ) (p : Process) → slice_index_or slots i None ≡ Some p → i < length slots
@@ -120,6 +121,9 @@ bodies_are_whole a words name p q ran reached hold asks =
 
 pub runs_stand : RunsStand
 runs_stand k events valid few = stands_after k valid events (omega (arith, few))
+
+pub lines_stand : LinesStand
+lines_stand k events d valid few = lines_after k valid events (omega (arith, few)) d
 
 pub sections_are_low : SectionsAreLow
 sections_are_low = sections_low

@@ -1,7 +1,8 @@
 //! The host of the program: its standard streams and files.
 
-ghost use Rattle.std.specs.Prelude.{◌≡◌, ◌<◌, ◌≤◌, [], ◌∷◌, length, IfOk};
-ghost use Rattle.host_ports.specs.Files.{counted_port};
+ghost use Rattle.std.specs.Prelude.{◌≡◌, ◌≢◌, ℕ, ◌<◌, ◌≤◌, [], ◌∷◌, length, slice_index_or, Ok, IfOk, IsErr, MatchResult};
+ghost use Rattle.host_ports.specs.Files.{TakesSome, counted_at, counted_port};
+ghost use Rattle.host_ports.specs.Ports.{HasCause};
 
 use crate::host::{Failed, Host};
 use std::io::{Read, Write};
@@ -86,28 +87,45 @@ impl<R: Files + Input + Print + Drop> FileHost<R> {
     }
 }
 
+/// The answer of a call at a port that the system answered so. It fails exactly where the system did, and is counted then; else it
+/// moves as many bytes as the system did.
+fn answer(counts: &mut [u64; 5], port: u8, moved: io::Result<usize>) -> Result<usize, Failed>
+    requires { port < 5 }
+    ensures moves { MatchResult moved (λ n. result ≡ Ok n) (λ _. IsErr result) }
+    ensures counts { MatchResult moved (λ _. counts.new ≡ counts.old) (λ _. counts.new ≡ counted_at counts.old port) }
+    ensures cause { HasCause (slice_index_or counts.old port 0) (slice_index_or counts.new port 0) result }
+    ensures others { (p : ℕ) → p ≢ port → slice_index_or counts.new p 0 ≡ slice_index_or counts.old p 0 }
+{
+    match moved {
+        Ok(count) => Ok(count),
+        Err(_) => {
+            let failed = counts[port as usize];
+            counts[port as usize] = failed.saturating_add(1);
+            Err(Failed)
+        }
+    }
+}
+
+/// The count of a write, where nothing taken of a piece that isn't empty is an error.
+fn some_taken(piece: &[u8], taken: io::Result<usize>) -> io::Result<usize>
+    ensures { MatchResult taken (λ n. TakesSome (length piece.now) n result) (λ _. IsErr result) }
+{
+    match taken {
+        Ok(0) if !piece.is_empty() => Err(io::ErrorKind::WriteZero.into()),
+        _ => taken,
+    }
+}
+
 impl<R: Files + Input + Print + Drop> Host for FileHost<R> {
     ghost ports = { λ h port. counted_port h.pulls h.pushes port };
 
     fn pull(&mut self, port: u8, buf: &mut [u8]) -> Result<usize, Failed> {
-        match self.read(port, buf) {
-            Ok(count) => Ok(count),
-            Err(_) => {
-                let failed = self.pulls[port as usize];
-                self.pulls[port as usize] = failed.saturating_add(1);
-                Err(Failed)
-            }
-        }
+        let moved = self.read(port, buf);
+        answer(&mut self.pulls, port, moved)
     }
 
     fn push(&mut self, port: u8, piece: &[u8]) -> Result<usize, Failed> {
-        match self.write(port, piece) {
-            Ok(count) if count > 0 || piece.is_empty() => Ok(count),
-            _ => {
-                let failed = self.pushes[port as usize];
-                self.pushes[port as usize] = failed.saturating_add(1);
-                Err(Failed)
-            }
-        }
+        let taken = some_taken(piece, self.write(port, piece));
+        answer(&mut self.pushes, port, taken)
     }
 }

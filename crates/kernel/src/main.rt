@@ -1,21 +1,24 @@
 //! The program: it hands the words and the host of its process to the top call, and says what that answered.
 #![tactic(auto)]
 
-mod text;
-
 ghost use Rattle.std.specs.Prelude.{◌≡◌, ◌⊎◌, IfOk, map, string_bytes};
-ghost use Rattle.kernel_top.specs.declared.command.Command.{Command};
-ghost use Rattle.kernel_top.specs.declared.command.Command.TheVariants.{Sim};
-ghost use Rattle.kernel_top.specs.Answer.{Asks, UsageShows, CauseShows, IfRan, Reported};
+ghost use Rattle.command_run.specs.Shows.{RunShows, IsSchedule};
+ghost use Rattle.command_threads.specs.Orders.{IsRoundOrder};
+ghost use Rattle.command_words.specs.declared.asked.Plan.TheVariants.{Sim, Run};
+ghost use Rattle.command_words.specs.Words.{Accepts};
+ghost use Rattle.kernel_top.specs.Answer.{UsageShows, IsNone};
 
+use command_input::Status;
 use host_ports::{FileHost, Host};
-use kernel_top::{Status, sim_main};
+use kernel_top::store_main;
+use processors::NoPace;
+use safe_save::{Disk, FileDisk};
 use std::alloc::{AllocError, Global};
 use std::io::ErrorKind;
 use std::process::ExitCode;
 use std::rt::Env;
+use std::thread::Threads;
 use std::{env, io};
-use text::StatusText;
 
 /// The words after the program's name. None where they can't be had, as where one isn't text.
 fn words_after_name(rt: &(impl Env + AllocGlobal)) -> Result<Option<Vec<String>>, Status> {
@@ -44,25 +47,34 @@ fn texts_of(alloc: Global, words: &[String]) -> Result<Vec<&str>, AllocError>
     Ok(texts)
 }
 
-/// What the top call answers to those words on that host, or NoMemory.
-fn run<H: Host>(rt: &impl AllocGlobal, words: &[String], host: &mut H) -> Status
-    // By `sim`, Done or Unfinished: the report of the configuration with its volumes, written whole.
-    ensures headline { Asks (map string_bytes words.now) Sim → IfRan result (Reported (H.ports host.old) (H.ports host.new)) }
-    // Why each answer comes.
-    ensures usage { (result ≡ Status.NoMemory) ⊎ UsageShows (map string_bytes words.now) (H.ports host.old) (H.ports host.new) result }
-    ensures cause { (c : Command) → Asks (map string_bytes words.now) c → CauseShows c (H.ports host.old) (H.ports host.new) result }
+/// What the top call answers to those words on that host and that disk, or NoMemory.
+fn run<H: Host, D: Disk>(
+    rt: &(impl AllocGlobal + Threads + Sync),
+    words: &[String],
+    host: &mut H,
+    disk: &mut D,
+) -> Status
+    // Usage exactly where the words aren't accepted, where there was memory for them.
+    ensures usage { (result ≡ Status.NoMemory) ⊎ UsageShows IsNone (map string_bytes words.now) (H.ports host.old) (H.ports host.new) result }
+    // By `sim` and by `run`: the headline, and whatever else each answer says, where there was memory for the words.
+    ensures sim { (result ≡ Status.NoMemory) ⊎ (Accepts (map string_bytes words.now) Sim → RunShows IsSchedule (H.ports host.old) (H.ports host.new) result) }
+    ensures run { (result ≡ Status.NoMemory) ⊎ (Accepts (map string_bytes words.now) Run → RunShows IsRoundOrder (H.ports host.old) (H.ports host.new) result) }
 {
     match texts_of(rt.alloc(), words) {
-        Ok(texts) => sim_main(rt.alloc(), texts.as_slice(), host),
+        Ok(texts) => store_main(rt, rt.alloc(), texts.as_slice(), host, &NoPace, disk),
         Err(_) => Status::NoMemory,
     }
 }
 
 /// What the top call answers to the words of the process. Words that can't be had are as no words.
-fn answer<H: Host>(rt: &(impl Env + AllocGlobal), host: &mut H) -> Status {
+fn answer<H: Host, D: Disk>(
+    rt: &(impl Env + AllocGlobal + Threads + Sync),
+    host: &mut H,
+    disk: &mut D,
+) -> Status {
     match words_after_name(rt) {
-        Ok(Some(words)) => run(rt, words.as_slice(), host),
-        Ok(None) => run(rt, &[], host),
+        Ok(Some(words)) => run(rt, words.as_slice(), host, disk),
+        Ok(None) => run(rt, &[], host, disk),
         Err(status) => status,
     }
 }
@@ -72,13 +84,16 @@ fn say(rt: &impl Eprint, status: Status) -> io::Result<()> {
     if status == Status::Done {
         return Ok(());
     }
-    rt.eprintln(StatusText(status))
+    rt.eprintln(status)
 }
 
 /// Exits with the number of the answer.
 fn main(rt: HostRuntime) -> ExitCode {
     let status = match rt.clone() {
-        Ok(own) => answer(&rt, &mut FileHost::new(own)),
+        Ok(files) => match rt.clone() {
+            Ok(store) => answer(&rt, &mut FileHost::new(files), &mut FileDisk::new(store)),
+            Err(_) => Status::NoMemory,
+        },
         Err(_) => Status::NoMemory,
     };
     // Where standard error can't be written, the number is all that is left to tell.

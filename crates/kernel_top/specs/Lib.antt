@@ -1,6 +1,2 @@
-pub mod StatusNumber
-pub mod Headline
-pub mod Input
+pub mod Store
 pub mod Answer
-pub mod Reading
-pub mod Outcome

@@ -1,16 +1,11 @@
-//! The top call.
+//! The top calls.
 #![tactic(auto)]
 
-mod command;
-mod input;
-mod output;
-mod running;
-mod status;
-#[cfg(test)]
-mod tests;
+mod plans;
+mod store;
+mod threads;
 mod top;
-mod volumes;
 
-pub use command::Command;
-pub use status::{PortFault, Refusal, Status};
+pub use store::{StoreCommand, save_main, store_main};
+pub use threads::kernel_main;
 pub use top::sim_main;

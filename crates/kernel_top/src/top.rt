@@ -1,166 +1,56 @@
-//! The top call.
+//! The top call of the commands that need neither threads nor a disk.
 
-ghost use Rattle.std.specs.Prelude.{◌≡◌, ◌≤◌, map, length};
-ghost use Rattle.config_text.specs.Valid.{IsValid, max_events};
-ghost use Rattle.kernel_top.specs.Answer.{Asks, UsageShows, CauseShows, IfRan, Reported, MachineReported, EndShows, VolumesShow, Shown, PrefixShows, SilenceShows, UnreadShows, OthersShow};
-ghost use Rattle.kernel_top.specs.Input.{loaded};
-ghost use Rattle.kernel_top.specs.Outcome.{Outcome, CommandRuns, RunsAs, RunsLoaded, ShowsAs};
-ghost use Rattle.loader.specs.Records.{AreVolumes, Loads};
-ghost use Rattle.machine.specs.Banks.{machine_of};
-ghost use Rattle.machine.specs.Opening.{machine as machine_after};
-ghost use Rattle.schedule.specs.Schedule.{events_of};
-ghost use Rattle.volume_image.specs.Images.{IsMadeFor};
+ghost use Rattle.std.specs.Prelude.{ℕ, map};
+ghost use Rattle.command_audit.specs.Audited.{AuditShows};
+ghost use Rattle.command_guard.specs.Shown.{GuardShows};
+ghost use Rattle.command_input.specs.Answer.{PortsShow};
+ghost use Rattle.command_large.specs.Summed.{LargeShows};
+ghost use Rattle.command_run.specs.Shows.{RunShows, ShowShows, IsSchedule};
+ghost use Rattle.command_view.specs.Viewed.{ViewShows};
+ghost use Rattle.command_words.specs.Words.{Accepts};
+ghost use Rattle.kernel_top.specs.Answer.{UsageShows, NeedsEither};
 
-use crate::command::{Command, command_of};
-use crate::input::read_port;
-use crate::output::push_text;
-use crate::running::{push_report, run_schedule, some_live};
-use crate::status::{PortFault, Refusal, Status};
-use crate::volumes::{push_volumes, read_volumes};
-use config_print::print_config;
-use config_text::{Config, ConfigError, read_config};
-use effect_laws::section_laws;
+use crate::plans::{carry_out, fault_kind};
+use command_input::Status;
+use command_words::{Plan, plan};
 use host_ports::Host;
-use loader::{LoadError, volumes_law};
-use machine::Machine;
 use std::alloc::Global;
-use volume_image::{Image, Volume};
-use words_layout::PlainWords;
 
-/// Prints the report of the machine after all events, and then the volumes where no process is live.
-fn finish<H: Host>(
-    host: &mut H,
-    config: &Config,
-    machine: &Machine<PlainWords>,
-    image: &mut Image,
-    volumes: &[(u8, Volume)],
-) -> Status
-    requires valid { IsValid config.now }
-    requires volumes { AreVolumes config.now volumes.now }
-    requires loads { Loads config.now volumes.now }
-    requires machine { machine_of machine.now ≡ machine_after (loaded config.now volumes.now) (events_of config.now) }
-    requires few { length (events_of config.now) ≤ max_events }
-    requires image { IsMadeFor config.now.table image.old }
-    ensures { RunsLoaded config.now volumes.now (H.ports host.old) (H.ports host.new) result }
-{
-    section_laws();
-    volumes_law();
-    match push_report(host, machine) {
-        Ok(()) => {}
-        Err(_) => return Status::HostFault(PortFault::Write { port: 0 }),
-    }
-    if some_live(machine) {
-        return Status::Unfinished;
-    }
-    match push_volumes(host, config, machine, image) {
-        Ok(()) => Status::Done,
-        Err(port) => Status::HostFault(PortFault::Write { port }),
-    }
-}
-
-/// Runs a configuration with its volumes.
-fn run_loaded<H: Host>(
-    alloc: Global,
-    host: &mut H,
-    config: &Config,
-    volumes: &[(u8, Volume)],
-) -> Status
-    requires valid { IsValid config.now }
-    requires volumes { AreVolumes config.now volumes.now }
-    ensures { RunsLoaded config.now volumes.now (H.ports host.old) (H.ports host.new) result }
-{
-    let Ok(mut image) = Image::new(alloc, &config.table) else {
-        return Status::NoMemory;
-    };
-    match run_schedule(alloc, config, volumes) {
-        Ok(machine) => finish(host, config, &machine, &mut image, volumes),
-        Err(LoadError::Fault { volume, item, code }) => {
-            Status::Refused(Refusal::Load { volume, item, code })
-        }
-        Err(LoadError::NoMemory) => Status::NoMemory,
-    }
-}
-
-/// Runs a configuration with the volumes at the ports that it names.
-fn run_config<H: Host>(alloc: Global, host: &mut H, config: &Config) -> Status
-    requires { IsValid config.now }
-    ensures { RunsAs config.now (H.ports host.old) (H.ports host.new) result }
-{
-    match read_volumes(alloc, host, config) {
-        Ok(volumes) => run_loaded(alloc, host, config, volumes.as_slice()),
-        Err(status) => status,
-    }
-}
-
-/// Prints a configuration.
-fn show_config<H: Host>(alloc: Global, host: &mut H, config: &Config) -> Status
-    requires { IsValid config.now }
-    ensures { ShowsAs config.now (H.ports host.old) (H.ports host.new) result }
-{
-    let Ok(text) = print_config(alloc, config) else {
-        return Status::NoMemory;
-    };
-    match push_text(host, text.as_bytes()) {
-        Err(_) => Status::HostFault(PortFault::Write { port: 0 }),
-        Ok(()) => Status::Done,
-    }
-}
-
-/// Carries out the command on this configuration.
-fn carry_out_on<H: Host>(alloc: Global, host: &mut H, command: Command, config: &Config) -> Status
-    requires { IsValid config.now }
-    ensures { CommandRuns command config.now (H.ports host.old) (H.ports host.new) result }
-{
-    match command {
-        Command::Sim => run_config(alloc, host, config),
-        Command::Show => show_config(alloc, host, config),
-    }
-}
-
-/// Carries out the command on the configuration at port 0.
-fn carry_out<H: Host>(alloc: Global, host: &mut H, command: Command) -> Status
-    ensures { Outcome command (H.ports host.old) (H.ports host.new) result }
-{
-    let text = match read_port(alloc, host, 0) {
-        Ok(text) => text,
-        Err(status) => return status,
-    };
-    match read_config(alloc, text.as_slice()) {
-        Ok(config) => carry_out_on(alloc, host, command, &config),
-        Err(ConfigError::Fault { line, code }) => Status::Refused(Refusal::Config { line, code }),
-        Err(ConfigError::NoMemory) => Status::NoMemory,
-    }
-}
-
-/// The top call. The accepted lists of words are `sim` and `show` alone. By `sim` the configuration at port 0 is run by its
-/// schedule, with the volumes at the ports that it names. Its report is pushed to port 0, each line as one piece; where no
-/// process is live then, the volumes after the run are pushed, each to its port, in format 2. By `show` the configuration's
-/// text is pushed to port 0. NoMemory comes before the first byte is pushed.
+/// The top call of the commands that need neither threads nor a disk, by the words behind the program's name.
+///
+/// - `sim`: the configuration at port 0 is run by its schedule, with the volumes at the ports that it names. Its report is pushed
+///   to port 0, each line as one piece; where no process is live then, the volumes after the run are pushed, each to its port, in
+///   format 2.
+/// - `show`: the configuration's text is pushed to port 0.
+/// - `view N`: what is at or below class N is run alone, and its section is pushed to port 0.
+/// - `large N`: the large configuration of number N is run, and its summary is pushed to port 0. Nothing is pulled.
+/// - `audit N`: as `view N`, but each access and reply is pushed, in the order of effect, in place of the section.
+/// - `guard`: the release order at port 0 is carried out on the volume at port 1, and the new volume is pushed to port 1, in format 2.
+///
+/// NoMemory comes before the first byte is pushed. Every other list of words is answered by Usage: with the kind that
+/// `command_words::plan` gives, or with kind 3 where `plan` accepts the list.
 pub fn sim_main<H: Host>(alloc: Global, words: &[&str], host: &mut H) -> Status
-    // By `sim`, Done or Unfinished: the report of the configuration with its volumes, written whole.
-    ensures headline { Asks (map (λ w. w.now) words.now) Command.Sim → IfRan result (Reported (H.ports host.old) (H.ports host.new)) }
-    // It is also what the step machine shows after the schedule's events.
-    ensures report { Asks (map (λ w. w.now) words.now) Command.Sim → IfRan result (MachineReported (H.ports host.old) (H.ports host.new)) }
-    // Done where no process is live then, Unfinished where one is.
-    ensures ended { Asks (map (λ w. w.now) words.now) Command.Sim → EndShows (H.ports host.old) result }
-    // At Done the volumes after the run, each at its port.
-    ensures volumes { Asks (map (λ w. w.now) words.now) Command.Sim → VolumesShow (H.ports host.old) (H.ports host.new) result }
-
-    // By `show`, Done: the text of the configuration, written whole.
-    ensures shown { Asks (map (λ w. w.now) words.now) Command.Show → IfRan result (Shown (H.ports host.old 0) (H.ports host.new 0)) }
-
-    // Why each answer comes.
-    ensures usage { UsageShows (map (λ w. w.now) words.now) (H.ports host.old) (H.ports host.new) result }
-    ensures cause { (c : Command) → Asks (map (λ w. w.now) words.now) c → CauseShows c (H.ports host.old) (H.ports host.new) result }
-
-    // What the ports have then.
-    ensures prefix { (c : Command) → Asks (map (λ w. w.now) words.now) c → PrefixShows c (H.ports host.old) (H.ports host.new) result }
-    ensures silence { SilenceShows (H.ports host.old) (H.ports host.new) result }
-    ensures unread { (c : Command) → Asks (map (λ w. w.now) words.now) c → UnreadShows (H.ports host.old) (H.ports host.new) result }
-    ensures other_ports { (c : Command) → Asks (map (λ w. w.now) words.now) c → OthersShow c (H.ports host.old) (H.ports host.new) }
+    // Usage exactly where the words ask for no command of this call, with the kind of their first fault.
+    ensures usage { UsageShows NeedsEither (map (λ w. w.now) words.now) (H.ports host.old) (H.ports host.new) result }
+    // By `sim`: the headline, and whatever else each answer says, of one input and the order of its schedule.
+    ensures headline { Accepts (map (λ w. w.now) words.now) Plan.Sim → RunShows IsSchedule (H.ports host.old) (H.ports host.new) result }
+    // By `show`: the text of the configuration, or why there is none.
+    ensures show { Accepts (map (λ w. w.now) words.now) Plan.Show → ShowShows (H.ports host.old) (H.ports host.new) result }
+    // By `view N`: the section of class N that `sim` prints.
+    ensures view { (class : ℕ) → Accepts (map (λ w. w.now) words.now) (Plan.View class) → ViewShows class (H.ports host.old) (H.ports host.new) result }
+    // By `large N`: the summary, read off the machine of whole instructions.
+    ensures large { (number : ℕ) → Accepts (map (λ w. w.now) words.now) (Plan.Large number) → LargeShows number (H.ports host.old) (H.ports host.new) result }
+    // By `audit N`: each access and reply at or below class N, each access allowed.
+    ensures audit { (class : ℕ) → Accepts (map (λ w. w.now) words.now) (Plan.Audit class) → AuditShows class (H.ports host.old) (H.ports host.new) result }
+    // By `guard`: the volume after the releases and the export, which nothing else flows into.
+    ensures guard { Accepts (map (λ w. w.now) words.now) Plan.Guard → GuardShows (H.ports host.old) (H.ports host.new) result }
+    // By any words: where nothing is pushed, which calls failed, and which ports weren't touched.
+    ensures ports { PortsShow (H.ports host.old) (H.ports host.new) result }
 {
-    match command_of(words) {
-        Some(command) => carry_out(alloc, host, command),
-        None => Status::Usage { kind: 3 },
+    match plan(words) {
+        Ok(plan) => carry_out(alloc, host, plan),
+        Err(fault) => Status::Usage {
+            kind: fault_kind(fault),
+        },
     }
 }

@@ -4,6 +4,3 @@
 mod table;
 
 pub use table::KnownTable;
-
-#[cfg(test)]
-mod tests;

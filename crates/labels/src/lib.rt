@@ -13,6 +13,3 @@ pub use fault::{LabelFault, TableFault};
 pub use label::{Label, MAX_LEVEL};
 pub use laws::{class_laws, order_laws, text_laws, twin_laws};
 pub use table::{ClassTable, MAX_CLASSES};
-
-#[cfg(test)]
-mod tests;

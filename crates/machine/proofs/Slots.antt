@@ -1,6 +1,6 @@
 -- The slots in memory and those that they stand for: which process takes the next step, and which slot is free.
 use Rattle.std.proofs.Common.{ℕ, zero, suc, ◌+◌, ◌%◌, ◌<◌, Bool, true, false, cond, List, [], ◌∷◌, map, length, ◌≡◌, refl, sym, ap, ◌∙◌, subst, Option, Some, None, arith}
-use Rattle.std.specs.Prelude.{◌==◌, if◌then◌else◌, slice_index_or, is_none}
+use Rattle.std.specs.Prelude.{◌==◌, if◌then◌else◌, slice_index_or, slice_set, is_none}
 use Rattle.std.specs.Option.{option_map}
 use Rattle.std.proofs.lemmas.Bool.{and_parts, eq-eqb}
 use Rattle.std.proofs.lemmas.List.Folds.{sum_by-zero}
@@ -153,3 +153,25 @@ free_there slots i h = at0 (slice_index_or slots 0 None) refl h
         (if is_none o then Some 0 else if is_free slots 1 then Some 1 else if is_free slots 2 then Some 2 else if is_free slots 3 then Some 3 else None) ≡ Some i → (i < 4) × (slice_index_or slots i None ≡ None)
     at0 None e h = found 0 (omega arith) e h
     at0 (Some p) e h = at1 (slice_index_or slots 1 None) refl h
+
+-- a slot that holds a process isn't free, whatever process it holds
+free_same : (slots : List (Option Standing)) (i : ℕ) (o : Option Standing) (p q : Standing) → slice_index_or slots i o ≡ Some p → (j : ℕ) → is_free (slice_set slots i (Some q)) j ≡ is_free slots j
+free_same [] i o p q h j = refl
+free_same (x ∷ xs) zero o p q h zero = sym (ap is_none h)
+free_same (x ∷ xs) zero o p q h (suc j) = refl
+free_same (x ∷ xs) (suc i) o p q h zero = refl
+free_same (x ∷ xs) (suc i) o p q h (suc j) = free_same xs i o p q h j
+
+abbrev least : Bool → Bool → Bool → Bool → Option ℕ
+least a b c d = if a then Some 0 else if b then Some 1 else if c then Some 2 else if d then Some 3 else None
+
+-- so a step of its process keeps the least free slot
+pub free_kept : (slots : List (Option Standing)) (i : ℕ) (o : Option Standing) (p q : Standing) → slice_index_or slots i o ≡ Some p → free_in slots ≡ free_in (slice_set slots i (Some q))
+free_kept slots i o p q h =
+    let after : ℕ → Bool = is_free (slice_set slots i (Some q)) in
+    let before : ℕ → Bool = is_free slots in
+    let same = free_same slots i o p q h in
+    sym (ap (λ (a : Bool). least a (after 1) (after 2) (after 3)) (same 0) ∙
+    ap (λ (b : Bool). least (before 0) b (after 2) (after 3)) (same 1) ∙
+    ap (λ (c : Bool). least (before 0) (before 1) c (after 3)) (same 2) ∙
+    ap (λ (d : Bool). least (before 0) (before 1) (before 2) d) (same 3))

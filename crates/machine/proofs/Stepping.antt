@@ -1,18 +1,21 @@
 -- Steps of a virtual processor by what is performed.
-use Rattle.std.proofs.Common.{ℕ, ◌<◌, ◌≡◌, refl, sym, ap, ◌∙◌, subst, Option, Some, None, MatchOption}
-use Rattle.std.specs.Prelude.{slice_index_or}
+use Rattle.std.proofs.Common.{ℕ, ◌<◌, ◌≡◌, refl, sym, ap, ◌∙◌, subst, Option, Some, None, MatchOption, Bool}
+use Rattle.std.specs.Prelude.{slice_index_or, slice_set}
 use Rattle.words_layout.specs.Named.{op_at}
-use Rattle.words_layout.specs.Ops.{IsWithin}
 use Rattle.words_layout.specs.Words.{WordOp}
 use Rattle.words_layout.specs.declared.op.Op.{Op}
+use Rattle.policy.specs.declared.answers.Outcome.{Outcome as Answer}
 use Rattle.class_model.specs.Config.{Shared, classes}
 use Rattle.process.specs.Fits.{OpFits}
-use Rattle.process.specs.Running.{next_op}
+use Rattle.process.specs.Running.{next_op, absorb}
+use Rattle.process.specs.declared.doing.Absorbed.{Absorbed as Answered}
+use Rattle.process.specs.declared.doing.Made.{Made as Given}
 use Rattle.process.proofs.Loaded.{fitting_within}
-use Rattle.process.specs.Standing.{Standing, OpIsLawful, running_of}
-use Rattle.machine.specs.Processing.{Processing, first_live}
-use Rattle.machine.specs.Steps.{ProcessingFits, IsChosen, StepsBy, Rests, Performs, IsAbsorbed, IsOperation, SlotFits}
+use Rattle.process.specs.Standing.{Standing, StandingFits, StandingSteps, Absorbs, OpIsLawful, running_of}
+use Rattle.machine.specs.Processing.{Processing, first_live, free_in}
+use Rattle.machine.specs.Steps.{ProcessingFits, IsChosen, StepsBy, Rests, Performs, IsAbsorbed, SlotFits, SlotPerforms}
 use Rattle.machine.proofs.Slots.{no_operation, operation_is}
+use Rattle.machine.proofs.Absorbing.{slot_steps}
 
 module _ {W : Type 0} (related : W → Op → ℕ → W → Type 0) (s : Shared) (v : Processing) (words : W) where
   -- where no process is live
@@ -22,30 +25,29 @@ module _ {W : Type 0} (related : W → Op → ℕ → W → Type 0) (s : Shared)
       (record { processing = refl; words_are = refl; no_effect = refl })
 
   -- where one is
-  pub performs_by : (op : Op) → IsOperation s v op → (answer : ℕ) (v' : Processing) (words' : W) (effect : Option ℕ) →
-      related words op answer words' → IsAbsorbed s v answer v' effect → StepsBy related s v words v' words' effect
-  performs_by op h answer v' words' effect performed absorbed =
-      subst (λ (o : Option WordOp). MatchOption o (Rests v words v' words' effect) (λ op. Performs related s v words v' words' effect op)) (sym h.of_step)
-      (record {
-        answer = answer;
-        in_limits = h.in_limits;
-        performed = subst (λ (o : Op). related words o answer words') h.here performed;
-        lawful = subst (OpIsLawful s v.class) h.here h.lawful;
-        absorbed = absorbed;
-      })
+  pub performs_by : (i : ℕ) (u v' : Processing) (words' : W) (outcome : Answer) (made : Given) (effect : Bool) (shown : Option ℕ) (p : SlotPerforms related s v i words u words' outcome made effect) →
+      IsAbsorbed s v p.answer v' shown → StepsBy related s v words v' words' shown
+  performs_by i u v' words' outcome made effect shown p absorbed =
+      subst (λ (o : Option WordOp). MatchOption o (Rests v words v' words' shown) (λ op. Performs related s v words v' words' shown op)) (sym p.of_step)
+      (record { answer = p.answer; in_limits = p.in_limits; performed = p.performed; lawful = p.lawful; absorbed = absorbed })
 
--- the operation of the process of the chosen slot is that of the step
-pub is_operation : (s : Shared) (v : Processing) (i : ℕ) (p : Standing) (op : Op) → ProcessingFits s v → IsChosen v i → slice_index_or v.slots i None ≡ Some p →
-    op ≡ op_at p.class (next_op s p.class (running_of s p)) → OpFits s p.class (next_op s p.class (running_of s p)) → IsWithin (classes s) op → OpIsLawful s p.class op → IsOperation s v op
-is_operation s v i p op fits c there is op_fits within lawful =
-    let same : p.class ≡ v.class = (subst (SlotFits s v.class) there (fits.slots i)).0 in
-    let name : WordOp = next_op s v.class (running_of s p) in
-    let named : op ≡ op_at v.class name = is ∙ ap (λ (d : ℕ). op_at d (next_op s d (running_of s p))) same in
-    record {
-      name = name;
-      of_step = operation_is s v i c p there v.class;
-      here = named;
-      in_limits = fitting_within s v.class name (subst (λ (d : ℕ). OpFits s d (next_op s d (running_of s p))) same op_fits);
-      within = within;
-      lawful = subst (λ (d : ℕ). OpIsLawful s d op) same lawful;
-    }
+  -- the step of the process of the chosen slot is one of the virtual processor
+  pub slot_performs : (i : ℕ) (before after : Standing) (u : Processing) (words' : W) (outcome : Answer) (made : Given) (effect : Bool) (free : Option ℕ) (given : Answered) →
+      ProcessingFits s v → IsChosen v i → slice_index_or v.slots i None ≡ Some before → free ≡ free_in v.slots →
+      u ≡ record v { slots = slice_set v.slots i (Some after) } → outcome ≡ given.outcome → made ≡ given.made → effect ≡ given.effect →
+      StandingFits s after → StandingSteps related s before free words after words' given →
+      SlotPerforms related s v i words u words' outcome made effect
+  slot_performs i before after u words' outcome made effect free given fits c there least is outcome_is made_is effect_is standing p =
+      let same : before.class ≡ v.class = (subst (SlotFits s v.class) there (fits.slots i)).0 in
+      let op : WordOp = next_op s v.class (running_of s before) in
+      let a : Absorbs s before after (absorb s before.class (running_of s before) free p.answer) given = p.absorbed in
+      rw (outcome_is, made_is, effect_is) (record {
+        op = op;
+        of_step = operation_is s v i c before there v.class;
+        answer = p.answer;
+        in_limits = fitting_within s v.class op (subst (λ (d : ℕ). OpFits s d (next_op s d (running_of s before))) same p.fits);
+        performed = subst (λ (d : ℕ). related words (op_at d (next_op s d (running_of s before))) p.answer words') same p.performed;
+        lawful = subst (λ (d : ℕ). OpIsLawful s d (op_at d (next_op s d (running_of s before)))) same p.lawful;
+        slot = slot_steps s v i p.answer before fits there after u free given.outcome given.made given.effect least is
+            a.running a.class a.ending a.effect a.made p.given_fits standing;
+      })

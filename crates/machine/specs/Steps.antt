@@ -2,7 +2,6 @@
 use Rattle.std.specs.Prelude.{◌≡◌, ℕ, ◌<◌, ◌≤◌, true, false, List, [], ◌∷◌, ◌++◌, length, map, Option, Some, None, MatchOption, slice_index_or, slice_set, Bool, if◌then◌else◌}
 use Rattle.words_layout.specs.Limits.{op_in_limits}
 use Rattle.words_layout.specs.Named.{op_at}
-use Rattle.words_layout.specs.Ops.{IsWithin}
 use Rattle.words_layout.specs.Words.{WordOp}
 use Rattle.words_layout.specs.declared.op.Op.{Op}
 use Rattle.words_layout.specs.declared.op.Event.{Event}
@@ -149,11 +148,12 @@ MadeHere v G.Nothing = Unit {0}
 MadeHere v (G.Line place value) = place < v.room
 MadeHere v (G.Child slot script ring start) = (slot < 4) × (slice_index_or v.slots slot None ≡ None)
 
--- it is the operation of the next step, a lawful one, and the layout has its word
-pub record IsOperation (s : Shared) (v : Processing) (op : Op) : Type 0 where
-  pub name : WordOp
-  pub of_step : vp_op s v.class (vp_of s v) ≡ Some name
-  pub here : op ≡ op_at v.class name
-  pub in_limits : op_in_limits (classes s) name ≡ true
-  pub within : IsWithin (classes s) op
-  pub lawful : OpIsLawful s v.class op
+-- the process of slot i performed its operation, once, a lawful one, and took its step with the answer
+pub record SlotPerforms {W : Type 0} (related : W → Op → ℕ → W → Type 0) (s : Shared) (v : Processing) (i : ℕ) (words : W) (v' : Processing) (words' : W) (outcome : Answer) (made : Given) (effect : Bool) : Type 0 where
+  pub op : WordOp
+  pub of_step : vp_op s v.class (vp_of s v) ≡ Some op
+  pub answer : ℕ
+  pub in_limits : op_in_limits (classes s) op ≡ true
+  pub performed : related words (op_at v.class op) answer words'
+  pub lawful : OpIsLawful s v.class (op_at v.class op)
+  pub slot : SlotSteps s v i answer v' outcome made effect

@@ -4,7 +4,7 @@ ghost use Rattle.std.specs.Prelude.{◌≡◌, ◌<◌, ℕ, [], Option, None, S
 ghost use Rattle.std.specs.Option.{option_map};
 ghost use Rattle.class_model.specs.Config.{classes};
 ghost use Rattle.machine.specs.Processing.{holds_live, live_count, first_live, free_in, with_made, current_after};
-ghost use Rattle.machine.specs.Steps.{IsChosen, IsOperation, ProcessingFits, StepsBy, IsAbsorbed, SlotSteps, MadeHere, effect_of};
+ghost use Rattle.machine.specs.Steps.{IsChosen, ProcessingFits, StepsBy, SlotPerforms, MadeHere, effect_of};
 
 use crate::lines::Lines;
 use class_model::Shared;
@@ -12,28 +12,30 @@ use policy::Outcome;
 use process::{Absorbed, Made, Process};
 use std::alloc::{AllocError, Global};
 use std::marker::Model;
-use words_layout::{Op, WordPort};
+use words_layout::WordPort;
 
 /// The virtual processor of a class on a processor: four slots for processes, and console lines by place.
 #[derive(Drop)]
 pub struct VirtualProcessor {
     class: u8,
-    slots: [Option<Process>; 4],
     current: u8,
     /// How many of its processes are live, so that a step of one without a live process is one test.
     live: u8,
+    /// The least slot that never held a process, so that no step looks for it.
+    free: Option<u8>,
     console: Lines,
+    slots: [Option<Process>; 4],
 }
 
 impl Model for VirtualProcessor {
     ghost use Rattle.std.specs.Prelude.{◌≡◌, ◌<◌, length};
-    ghost use Rattle.machine.specs.Processing.{Processing, live_count};
+    ghost use Rattle.machine.specs.Processing.{Processing, live_count, free_in};
 
     ghost Value = { Processing };
 
     ghost view = { λ v. record { class = v.class; slots = v.slots; current = v.current; lines = v.console.pairs; room = v.console.room } };
 
-    ghost invariant = { λ v. (v.current < 4) × (length v.slots ≡ 4) × (v.live ≡ live_count v.slots) };
+    ghost invariant = { λ v. (v.current < 4) × (length v.slots ≡ 4) × (v.live ≡ live_count v.slots) × (v.free ≡ free_in v.slots) };
 }
 
 /// The slot that is current after a step of this one: the next one after a poll and at the end of an instruction.
@@ -55,6 +57,23 @@ fn effect_of(slot: u8, effect: bool) -> Option<u8>
     if effect { Some(slot) } else { None }
 }
 
+/// The least slot that never held a process.
+fn free_slot(slots: &[Option<Process>; 4]) -> Option<u8>
+    ensures { result ≡ free_in slots.now }
+{
+    if slots[0].is_none() {
+        Some(0)
+    } else if slots[1].is_none() {
+        Some(1)
+    } else if slots[2].is_none() {
+        Some(2)
+    } else if slots[3].is_none() {
+        Some(3)
+    } else {
+        None
+    }
+}
+
 impl VirtualProcessor {
     /// A virtual processor with empty slots, and with room for so many console lines.
     pub fn new(alloc: Global, class: u8, console: u32) -> Result<VirtualProcessor, AllocError>
@@ -66,6 +85,7 @@ impl VirtualProcessor {
             slots: [None, None, None, None],
             current: 0,
             live: 0,
+            free: Some(0),
             console,
         })
     }
@@ -81,6 +101,7 @@ impl VirtualProcessor {
             self.live += 1;
         }
         self.slots[slot as usize] = Some(process);
+        self.free = free_slot(&self.slots);
     }
 
     /// The process of a slot. None exactly where the slot is empty.
@@ -138,42 +159,16 @@ impl VirtualProcessor {
         }
     }
 
-    /// The least slot that never held a process.
-    fn free_slot(&self) -> Option<u8>
-        ensures { result ≡ free_in self.now.slots }
-    {
-        if self.slots[0].is_none() {
-            Some(0)
-        } else if self.slots[1].is_none() {
-            Some(1)
-        } else if self.slots[2].is_none() {
-            Some(2)
-        } else if self.slots[3].is_none() {
-            Some(3)
-        } else {
-            None
-        }
-    }
-
-    /// The operation of its next step.
-    fn next_op(&self, slot: u8, shared: &Shared) -> Op
-        requires chosen { IsChosen self.now slot }
-        requires fits { ProcessingFits shared.now self.now }
-        ensures { IsOperation shared.now self.now result }
-    {
-        match &self.slots[slot as usize] {
-            Some(process) => process.next_op(shared),
-            None => Op::Nothing,
-        }
-    }
-
-    /// The process of the slot absorbs the answer.
-    fn absorb_at(&mut self, slot: u8, shared: &Shared, answer: u64) -> Absorbed
+    /// The process of the slot takes its step.
+    #[tactic(auto, using(crate::proofs::Slots::free_kept))]
+    fn step_at<W: WordPort>(&mut self, slot: u8, port: &mut W, shared: &Shared) -> Absorbed
         requires chosen { IsChosen self.old slot }
         requires fits { ProcessingFits shared.now self.old }
-        ensures { SlotSteps shared.now self.old slot answer self.new result.outcome result.made result.effect }
+        requires layout { W.classes port.old ≡ classes shared.now }
+        ensures step { SlotPerforms W.relation shared.now self.old slot port.old self.new port.new result.outcome result.made result.effect }
+        ensures layout { W.classes port.new ≡ classes shared.now }
     {
-        let free = self.free_slot();
+        let free = self.free;
         let Some(process) = &mut self.slots[slot as usize] else {
             return Absorbed {
                 outcome: Outcome::Going,
@@ -181,7 +176,7 @@ impl VirtualProcessor {
                 effect: false,
             };
         };
-        let absorbed = process.absorb(shared, free, answer);
+        let absorbed = process.step(port, shared, free);
         if !process.is_live() {
             self.live -= 1;
         }
@@ -205,14 +200,17 @@ impl VirtualProcessor {
         }
     }
 
-    /// Absorbs the answer to its operation: the slot of the process whose instruction took effect, if one did.
-    fn absorb(&mut self, slot: u8, shared: &Shared, answer: u64) -> Option<u8>
+    /// The process of the slot takes its step, and what the step gave beside is taken: the slot, if its instruction took
+    /// effect.
+    fn step_slot<W: WordPort>(&mut self, slot: u8, port: &mut W, shared: &Shared) -> Option<u8>
         requires chosen { IsChosen self.old slot }
         requires fits { ProcessingFits shared.now self.old }
-        ensures absorbed { IsAbsorbed shared.now self.old answer self.new result }
+        requires layout { W.classes port.old ≡ classes shared.now }
+        ensures step { StepsBy W.relation shared.now self.old port.old self.new port.new result }
         ensures fits { ProcessingFits shared.now self.new }
+        ensures layout { W.classes port.new ≡ classes shared.now }
     {
-        let absorbed = self.absorb_at(slot, shared, answer);
+        let absorbed = self.step_at(slot, port, shared);
         self.take_made(absorbed.made);
         self.current = current_after(slot, absorbed.outcome);
         effect_of(slot, absorbed.effect)
@@ -242,8 +240,6 @@ impl VirtualProcessor {
         let Some(slot) = self.first_live() else {
             return None;
         };
-        let op = self.next_op(slot, shared);
-        let answer = port.perform(op);
-        self.absorb(slot, shared, answer)
+        self.step_slot(slot, port, shared)
     }
 }

@@ -1,12 +1,12 @@
 -- The verdict is Ok exactly where the policy permits what is wanted.
-use Rattle.std.proofs.Common.{ℕ, ◌≤◌, Bool, true, false, not, List, [], ◌∷◌, ◌++◌, ◌≡◌, refl, ap, ◌∙◌, sym, Option, Some, None, Result, Ok, Err, ◌↔◌}
-use Rattle.std.specs.Prelude.{if◌then◌else◌, nat_le, IsOk, MatchResult}
+use Rattle.std.proofs.Common.{ℕ, Bool, true, false, not, List, [], ◌∷◌, ◌++◌, ◌≡◌, refl, ◌∙◌, Some, None, Result, Ok, Err, ◌↔◌}
+use Rattle.std.specs.Prelude.{if◌then◌else◌, IsOk, MatchResult}
 use Rattle.std.proofs.lemmas.Bool.{leb-true, le-leb}
 use Rattle.labels.specs.Label.{Label, secrecy_at_least, integrity_at_least}
 use Rattle.labels.proofs.OrderLaws.{secrecy_twin, integrity_twin}
 use Rattle.rings.specs.Brackets.{Brackets, may_read, may_write}
 use Rattle.policy.specs.Known.{observes, modifies}
-use Rattle.policy.specs.Verdict.{◌⇒◌, first_broken, observe_tests, modify_tests, verdict_tests, verdict}
+use Rattle.policy.specs.Verdict.{◌⇒◌, first_broken, observe_tests, modify_tests, verdict}
 use Rattle.policy.specs.Permitted.{MayObserve, MayModify, IsPermitted}
 use Rattle.policy.specs.declared.rule.Rule.{Rule}
 

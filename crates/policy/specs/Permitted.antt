@@ -1,5 +1,5 @@
 -- What the policy asks, in the words of its sources: Bell-LaPadula for secrecy, Biba for integrity, and the ring brackets.
-use Rattle.std.specs.Prelude.{◌≡◌, ℕ, ◌≤◌, true, Option, Some, None}
+use Rattle.std.specs.Prelude.{◌≡◌, ℕ, ◌≤◌, true}
 use Rattle.labels.specs.Label.{Label}
 use Rattle.labels.specs.Order.{SecrecyDominates, IntegrityDominates}
 use Rattle.rings.specs.Brackets.{Brackets}

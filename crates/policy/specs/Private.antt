@@ -1,5 +1,5 @@
 -- The private tests of the gates, in order: by the caller's ring, the known segment, the operands and the class table.
-use Rattle.std.specs.Prelude.{ℕ, ◌+◌, ◌/◌, ◌%◌, Bool, not, ◌||◌, List, [], ◌∷◌, ◌==◌, nat_le, nat_lt, length}
+use Rattle.std.specs.Prelude.{ℕ, ◌+◌, ◌/◌, ◌%◌, ◌≤◌, Bool, not, ◌||◌, List, [], ◌∷◌, ◌==◌, nat_le, nat_lt, length}
 use Rattle.labels.specs.Label.{ClassEntry, at_or_below}
 use Rattle.rings.specs.Brackets.{Brackets, in_order, may_read, may_write}
 use Rattle.policy.specs.Known.{Known, modifies, signals}
@@ -19,6 +19,12 @@ entry_test entry = nat_lt 7 entry ⇒ BadEntry
 abbrev pub bounds_test : Known → ℕ → ℕ → ℕ → Bool × Rule
 bounds_test k offset count pad =
     count == 0 || nat_lt 64 count || nat_lt k.size (offset + count) || nat_lt 64 (pad + count) ⇒ Bounds
+
+-- all the words are within the segment and the pad
+pub record InBounds (k : Known) (offset count pad : ℕ) : Type 0 where
+  pub some : 1 ≤ count
+  pub segment : offset + count ≤ k.size
+  pub in_pad : pad + count ≤ 64
 
 -- before reading
 abbrev pub read_tests : ℕ → Known → List (Bool × Rule)

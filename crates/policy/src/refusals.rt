@@ -47,6 +47,19 @@ pub fn brackets_from(number: u64) -> Option<Brackets>
     )
 }
 
+/// The brackets of a number that is at most 511 and has them in order.
+pub fn brackets_of(number: u64) -> Brackets
+    requires limit { number ≤ 511 }
+    requires ordered { in_order (brackets_of number) ≡ true }
+    ensures { result ≡ brackets_of number }
+{
+    Brackets {
+        r1: (number / 64) as u8,
+        r2: (number / 8 % 8) as u8,
+        r3: (number % 8) as u8,
+    }
+}
+
 /// Before reading, as `read` and `await` do.
 pub fn read_refusal(ring: Ring, known: &Known) -> Option<Rule>
     ensures { result ≡ first_broken (read_tests ring known.now) }

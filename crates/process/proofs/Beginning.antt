@@ -23,6 +23,10 @@ begins_told k tests does act x answer begun may passed fresh =
     let act_is : act ≡ does k = begun ∙ started in
     rw (act_is, fresh) refl
 
+-- a gate that was begun again is told what its act is told
+pub restarts_told : (act does : Act Outcome) (x : Doing Outcome) (answer : ℕ) → act ≡ does → x ≡ Fresh → step_told act x answer ≡ act_told does answer
+restarts_told act does x answer same fresh = rw (same, fresh) refl
+
 -- the first step of a class's turn in which one nests
 pub nesting_begun : (body : Outer Outcome) (answer : ℕ) (told : Told Outcome) (next : Doing Outcome) (kept now : Option Reply) →
     told ≡ act_told (ClassTurn body) answer → next ≡ told.doing → kept ≡ None → now ≡ reply_kept told kept → OuterShows IsReply (Unit {0}) body → IsNesting next now

@@ -1,5 +1,5 @@
 -- What a process in memory that fits may ask, and what the step machine says of it.
-use Rattle.std.proofs.Common.{ℕ, ◌<◌, ◌≡◌, refl, sym, ap, ◌∙◌, subst, List, Option, arith}
+use Rattle.std.proofs.Common.{ℕ, ◌<◌, ◌≡◌, refl, sym, ap, ◌∙◌, subst, Bool, true, false, List, Option, arith}
 use Rattle.labels.specs.Label.{ClassEntry}
 use Rattle.labels.specs.Table.{IsTable}
 use Rattle.policy.specs.Outcome.{Outcome}
@@ -25,7 +25,7 @@ use Rattle.process.specs.Running.{next_op, running_op, absorb, after_told, begin
 use Rattle.process.specs.Fits.{IsSound, Fits, MadeFits, OpFits}
 use Rattle.process.specs.Shows.{IsLooking, IsTurning, IsReply, IsLearning, IsFetch}
 use Rattle.process.specs.Asking.{AskedFits}
-use Rattle.process.specs.Standing.{Standing, StandingFits, GivenFits, Absorbs, OpIsLawful, IsHeld, doing_in, running_of, made_by}
+use Rattle.process.specs.Standing.{Standing, StandingFits, GivenFits, Absorbs, OpIsLawful, IsHeld, StandingSteps, doing_in, ended_if, running_of, made_by}
 use Rattle.process.specs.declared.doing.Doing.{Doing as Held}
 use Rattle.process.specs.declared.doing.Doing.TheVariants as H
 use Rattle.process.specs.declared.doing.Made.{Made as Given}
@@ -67,6 +67,43 @@ begun_held d table (H.SwapIn gate) h other = begun_turn (Unit {0}) (SwappingIn.d
 begun_held d table (H.SwapOut gate) h other = begun_turn (Unit {0}) (SwappingOut.doing_of gate) h.1.0
 begun_held d table (H.Fetch gate pad) h other = begun_look (IsFetch pad) (Fetching.doing_of gate) h
 begun_held d table (H.Update gate) h other = begun_turn ⊥ (Updating.doing_of gate) h.1
+
+-- where an instruction was begun, what is kept is its own, and in order
+pub held_on : (d : ℕ) (over : Bool) (x : Held) → IsHeld d (ended_if over x) → (ended_if over x ≡ H.Fresh → ⊥) → IsHeld d x
+held_on d true x h other = absurd (other refl)
+held_on d false x h other = h
+
+kept_on : (over : Bool) (x : Held) → (ended_if over x ≡ H.Fresh → ⊥) → x ≡ ended_if over x
+kept_on true x other = absurd (other refl)
+kept_on false x other = refl
+
+-- a process as its fields hold it: over says that what is kept is left of the last instruction
+module _ (s : Shared) (d : ℕ) (p : Process) (over : Bool) (x : Held) (h : IsHeld d (ended_if over x)) (v : Standing)
+    (is : (let w : Standing = record { class = d; process = p; doing = ended_if over x } in w) ≡ v) (begun : v.doing ≡ H.Fresh → ⊥) where
+  begun_within : ended_if over x ≡ H.Fresh → ⊥
+  begun_within e = begun (ap (λ (w : Standing). w.doing) (sym is) ∙ e)
+
+  pub held_within : IsHeld d x
+  held_within = held_on d over x h begun_within
+
+  -- what is kept is what the process does
+  pub kept_within : (t : List ClassEntry) → t ≡ s.table → doing_in t x ≡ doing_in s.table v.doing
+  kept_within t e = ap (λ (t : List ClassEntry). doing_in t x) e ∙ ap (doing_in s.table) (kept_on over x begun_within) ∙ ap (λ (w : Standing). doing_in s.table w.doing) is
+
+  begun_now : IsBegun (doing_in s.table v.doing)
+  begun_now = begun_held v.class s.table v.doing (subst (λ (w : Standing). IsHeld w.class w.doing) is h) begun
+
+  -- so its operation is the next one
+  pub begun_asks : (t : List ClassEntry) → t ≡ s.table → (op : Op) → op ≡ op_at d (doing_op d (doing_in t x)) → op ≡ op_at v.class (next_op s v.class (running_of s v))
+  begun_asks t e op asked =
+      asked ∙ ap (λ (y : Doing Outcome). op_at d (doing_op d y)) (kept_within t e) ∙
+      ap (λ (w : Standing). op_at w.class (doing_op w.class (doing_in s.table v.doing))) is ∙
+      ap (op_at v.class) (sym (begun_now.asks s v.class v.process))
+
+-- and it takes the answer as the step machine says
+pub begun_absorbs : (s : Shared) (v : Standing) → IsHeld v.class v.doing → (v.doing ≡ H.Fresh → ⊥) → (free : Option ℕ) (answer : ℕ) →
+    absorb s v.class (running_of s v) free answer ≡ after_told v.process (doing_told (doing_in s.table v.doing) answer)
+begun_absorbs s v h begun free answer = (begun_held v.class s.table v.doing h begun).absorbs s v.class v.process free answer
 
 given_by : (s : Shared) (d : ℕ) (g : Given) → MadeFits s d (made_by d g) → GivenFits s d g
 given_by s d G.Nothing h = tt
@@ -116,3 +153,16 @@ module _ (s : Shared) (v : Standing) (f : StandingFits s v) where
 
       pub stands_within : IsWithin (classes s) op
       stands_within = subst (IsWithin (classes s)) (sym e) (op_within_layout s good v.class (running_of s v) f.fits)
+
+    -- so it steps, by the answer to that operation
+    pub stands_step : {W : Type 0} (related : W → Op → ℕ → W → Type 0) (free : Option ℕ) (words words' : W) (op : Op) (answer : ℕ) (after : Standing) (given : Answered) →
+        op ≡ op_at v.class (next_op s v.class (running_of s v)) → related words op answer words' →
+        Absorbs s v after (absorb s v.class (running_of s v) free answer) given → StandingSteps related s v free words after words' given
+    stands_step related free words words' op answer after given asks performed a = record {
+      answer = answer;
+      fits = stands_op;
+      lawful = subst (OpIsLawful s v.class) asks (stands_lawful op asks);
+      performed = subst (λ (o : Op). related words o answer words') asks performed;
+      absorbed = a;
+      given_fits = stands_given free answer after given a;
+    }

@@ -1,6 +1,7 @@
 -- What the code of a process stands for.
 use Rattle.std.specs.Prelude.{ℕ, ◌%◌, ◌<◌, ◌≡◌, Bool, true, false, not, ◌==◌, if◌then◌else◌, List, Option, Some, None, is_some}
 use Rattle.labels.specs.Label.{ClassEntry}
+use Rattle.words_layout.specs.Named.{op_at}
 use Rattle.words_layout.specs.Words.{class_of}
 use Rattle.words_layout.specs.declared.op.Op.{Op}
 use Rattle.words_layout.specs.declared.op.Op.TheVariants as O
@@ -26,8 +27,8 @@ use Rattle.swap_gates.specs.declared.swap_out.SwapOut.{SwapOut}
 use Rattle.data_gates.specs.declared.update.Update.{Update}
 use Rattle.class_model.specs.Config.{Shared, classes, flows}
 use Rattle.class_model.specs.Process.{Process, new_process, reg, reply, settled}
-use Rattle.process.specs.Running.{Running, Made, Line, Child, Absorbed, taken, made_of}
-use Rattle.process.specs.Fits.{Fits}
+use Rattle.process.specs.Running.{Running, Made, Line, Child, Absorbed, taken, made_of, next_op, absorb}
+use Rattle.process.specs.Fits.{Fits, OpFits}
 use Rattle.process.specs.Shows.{IsLooking, IsTurning, is_leaving, IsReply, IsLearning, IsFetch}
 use Rattle.process.specs.declared.doing.Doing.{Doing as Held}
 use Rattle.process.specs.declared.doing.Doing.TheVariants as H
@@ -108,6 +109,16 @@ pub record Absorbs (s : Shared) (before after : Standing) (said : Absorbed) (giv
   pub reply : given.outcome ≡ answer_by said.ending (reply_held after.process)
   pub effect : given.effect ≡ said.effect
   pub made : made_by before.class given.made ≡ said.made
+
+-- A step of a process on a port of words. Its operation is performed, once: a lawful one, whose word the layout has. What
+-- the process is made by the answer, and what the step gives, are as the step machine says.
+pub record StandingSteps {W : Type 0} (related : W → Op → ℕ → W → Type 0) (s : Shared) (before : Standing) (free : Option ℕ) (words : W) (after : Standing) (words' : W) (given : Answered) : Type 0 where
+  pub answer : ℕ
+  pub fits : OpFits s before.class (next_op s before.class (running_of s before))
+  pub lawful : OpIsLawful s before.class (op_at before.class (next_op s before.class (running_of s before)))
+  pub performed : related words (op_at before.class (next_op s before.class (running_of s before))) answer words'
+  pub absorbed : Absorbs s before after (absorb s before.class (running_of s before) free answer) given
+  pub given_fits : GivenFits s before.class given.made
 
 -- it is the last step of its instruction
 abbrev pub is_done : Answer → Bool

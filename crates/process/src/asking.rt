@@ -65,19 +65,20 @@ pub fn first_op(shared: &Shared, class: u8, state: &ProcessState, request: &Requ
 
 /// The first step of a request that looks or takes turns: how far it is then.
 pub fn begin(
+    doing: &mut Doing,
     shared: &Shared,
     class: u8,
     state: &ProcessState,
     request: &Request,
     answer: u64,
-) -> Doing
+)
     requires sound { IsSound shared.now }
     requires class { class < classes shared.now }
     requires fits { AskedFits shared.now class request.now }
     requires passed { Passed shared.now.table state.now request.now }
     requires more { is_once request.now ≡ false }
-    ensures told { act_told (act shared.now class state.now.ring (request_of state.now request.now)) answer ≡ going (doing_in shared.now.table result) }
-    ensures held { IsHeld class result }
+    ensures told { act_told (act shared.now class state.now.ring (request_of state.now request.now)) answer ≡ going (doing_in shared.now.table doing.new) }
+    ensures held { IsHeld class doing.new }
 {
     let who = Caller {
         class,
@@ -85,7 +86,7 @@ pub fn begin(
     };
     match *request {
         Request::MakeKnown { known, entry, mode } => {
-            begin_make_known(&who, shared.table(), &known, entry, mode, answer)
+            *doing = begin_make_known(&who, shared.table(), &known, entry, mode, answer);
         }
         Request::Create {
             known,
@@ -93,32 +94,33 @@ pub fn begin(
             class: child,
             brackets,
             size,
-        } => begin_create(
-            &who,
-            shared.table(),
-            &known,
-            entry,
-            child,
-            brackets,
-            size,
-            answer,
-        ),
-        Request::Delete { known, entry } => begin_delete(&who, &known, entry, answer),
-        Request::SwapIn(known) => begin_swap_in(&who, &known, shared.pool(class).frames, answer),
-        Request::SwapOut(known) => begin_swap_out(&who, &known, shared.pool(class).pages, answer),
+        } => {
+            let table = shared.table();
+            *doing = begin_create(&who, table, &known, entry, child, brackets, size, answer);
+        }
+        Request::Delete { known, entry } => *doing = begin_delete(&who, &known, entry, answer),
+        Request::SwapIn(known) => {
+            *doing = begin_swap_in(&who, &known, shared.pool(class).frames, answer);
+        }
+        Request::SwapOut(known) => {
+            *doing = begin_swap_out(&who, &known, shared.pool(class).pages, answer);
+        }
         Request::Fetch {
             known,
             offset,
             count,
             pad,
-        } => begin_fetch(&who, &known, offset, count, pad, answer),
+        } => begin_fetch(doing, &who, &known, offset, count, pad, answer),
         Request::Update {
             known,
             offset,
             count,
             pad,
-        } => begin_update(&who, &known, offset, count, pad, state.pad(), answer),
-        _ => Doing::Fresh,
+        } => {
+            let words = state.pad();
+            begin_update(doing, &who, &known, offset, count, pad, words, answer);
+        }
+        _ => {}
     }
 }
 

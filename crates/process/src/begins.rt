@@ -111,33 +111,45 @@ pub fn begin_swap_out(who: &Caller, known: &Known, pages: u8, answer: u64) -> Do
     Doing::SwapOut(gate)
 }
 
-/// Fetch: the started word of the segment was loaded.
+/// Fetch: the started word of the segment was loaded. What the last instruction left of a fetch is begun again.
 #[tactic(auto, using(data_gates::proofs::Bounds::fetch_bounds))]
 pub fn begin_fetch(
+    doing: &mut Doing,
     who: &Caller,
     known: &Known,
     offset: u64,
     count: u64,
     pad: u64,
     answer: u64,
-) -> Doing
+)
     requires class { who.now.class < 16 }
     requires known { KnownTo who.now.class (Some known.now) }
     requires usable { IsUsable known.now }
     requires passed { first_broken (fetch_tests who.now.ring offset count pad known.now) ≡ None }
-    ensures doing { (t : List ClassEntry) → doing_in t result ≡ LookSecond known.now.class (OfSegment known.now.seg) answer (fetch_body known.now.seg offset count pad) }
-    ensures held { IsHeld who.now.class result }
+    ensures doing { (t : List ClassEntry) → doing_in t doing.new ≡ LookSecond known.now.class (OfSegment known.now.seg) answer (fetch_body known.now.seg offset count pad) }
+    ensures held { IsHeld who.now.class doing.new }
 {
-    let mut gate = Fetch::start(who, Some(known), offset, count, pad);
-    gate.absorb(answer);
-    Doing::Fetch {
-        gate,
-        pad: pad as u8,
+    match doing {
+        Doing::Fetch { gate, pad: place } => {
+            gate.restart(known, offset as u8, count as u8, pad as u8);
+            gate.absorb(answer);
+            *place = pad as u8;
+        }
+        _ => {
+            let mut gate = Fetch::start(who, Some(known), offset, count, pad);
+            gate.absorb(answer);
+            *doing = Doing::Fetch {
+                gate,
+                pad: pad as u8,
+            };
+        }
     }
 }
 
-/// Update: 1 was added to the started word of the segment.
+/// Update: 1 was added to the started word of the segment. What the last instruction left of an update is begun again.
+#[tactic(auto, using(data_gates::proofs::Bounds::update_bounds))]
 pub fn begin_update(
+    doing: &mut Doing,
     who: &Caller,
     known: &Known,
     offset: u64,
@@ -145,15 +157,30 @@ pub fn begin_update(
     pad: u64,
     words: &[u64; 64],
     answer: u64,
-) -> Doing
+)
     requires class { who.now.class < 16 }
     requires known { KnownTo who.now.class (Some known.now) }
     requires usable { IsUsable known.now }
     requires passed { first_broken (update_tests who.now.ring offset count pad known.now) ≡ None }
-    ensures doing { (t : List ClassEntry) → doing_in t result ≡ InnerSecond None known.now.seg (update_body known.now.seg offset (part_of words.now pad count)) }
-    ensures held { IsHeld who.now.class result }
+    ensures doing { (t : List ClassEntry) → doing_in t doing.new ≡ InnerSecond None known.now.seg (update_body known.now.seg offset (part_of words.now pad count)) }
+    ensures held { IsHeld who.now.class doing.new }
 {
-    let mut gate = Update::start(who, Some(known), offset, count, pad, words);
-    gate.absorb(answer);
-    Doing::Update(gate)
+    match doing {
+        Doing::Update(gate) => {
+            gate.restart(
+                who.class,
+                known,
+                offset as u8,
+                count as u8,
+                pad as u8,
+                words,
+            );
+            gate.absorb(answer);
+        }
+        _ => {
+            let mut gate = Update::start(who, Some(known), offset, count, pad, words);
+            gate.absorb(answer);
+            *doing = Doing::Update(gate);
+        }
+    }
 }

@@ -8,11 +8,11 @@ ghost use Rattle.gate_parts.specs.Replies.{answer_by};
 ghost use Rattle.class_model.specs.Config.{Shared, classes};
 ghost use Rattle.class_model.specs.Process.{new_process, reg};
 ghost use Rattle.class_model.specs.Plan.{plan};
-ghost use Rattle.class_model.specs.Next.{CanStep, Passed, is_own, request_of};
+ghost use Rattle.class_model.specs.Next.{CanStep, Passed, IsNext, NextPassed, is_own, request_of};
 ghost use Rattle.process.specs.Running.{next_op, absorb, act, after_told, begin_in, plan_absorbed};
 ghost use Rattle.process.specs.Fits.{IsSound, OpFits};
 ghost use Rattle.process.specs.Asking.{AskedFits};
-ghost use Rattle.process.specs.Standing.{Absorbs, OpIsLawful, StandingFits, GivenFits, doing_in, running_of, new_standing, made_by, ending_of, ended_with, reply_held};
+ghost use Rattle.process.specs.Standing.{Absorbs, StandingSteps, OpIsLawful, StandingFits, GivenFits, doing_in, running_of, new_standing, made_by, ending_of, ended_with, reply_held};
 ghost use Rattle.process.specs.declared.doing.Doing.{Doing};
 
 use crate::asking::{ask_once, begin, first_op, is_once};
@@ -22,24 +22,27 @@ use policy::{Caller, Outcome, Rule};
 use rings::Ring;
 use script_lang::Reg;
 use std::marker::Model;
-use words_layout::Op;
+use words_layout::{Op, WordPort};
 
 /// One process. Contracts see its class, its private state and how far its next instruction is.
 #[derive(Drop)]
 pub struct Process {
     class: u8,
+    /// Whether the last instruction is over. What `doing` then holds is left of it, for the next one of its kind to
+    /// begin again in place.
+    over: bool,
     state: ProcessState,
     doing: Doing,
 }
 
 impl Model for Process {
-    ghost use Rattle.process.specs.Standing.{Standing, IsHeld};
+    ghost use Rattle.process.specs.Standing.{Standing, IsHeld, ended_if};
 
     ghost Value = { Standing };
 
-    ghost view = { λ p. record { class = p.class; process = p.state; doing = p.doing } };
+    ghost view = { λ p. record { class = p.class; process = p.state; doing = ended_if p.over p.doing } };
 
-    ghost invariant = { λ p. IsHeld p.class p.doing };
+    ghost invariant = { λ p. IsHeld p.class (ended_if p.over p.doing) };
 }
 
 /// The answer of a step that ends so: the reply of a Done is what r0, modulo 256, and r1 hold.
@@ -59,6 +62,7 @@ impl Process {
     {
         Process {
             class,
+            over: true,
             state: ProcessState::new(class, script, ring, start),
             doing: Doing::Fresh,
         }
@@ -124,21 +128,32 @@ impl Process {
     {
         shared.shared_law();
         shared.table().table_law();
-        match &self.doing {
-            Doing::Fresh => self.planned_op(shared),
-            doing => doing.next_op(shared.table(), self.class),
+        if self.is_fresh() {
+            self.planned_op(shared, &self.state.next(shared, self.class))
+        } else {
+            self.doing.next_op(shared.table(), self.class)
         }
     }
 
+    /// Whether its next step begins an instruction.
+    fn is_fresh(&self) -> bool
+        ensures fresh { result ≡ true → self.now.doing ≡ Doing.Fresh }
+        ensures begun { result ≡ false → self.now.doing ≡ Doing.Fresh → ⊥ }
+    {
+        self.over || matches!(&self.doing, Doing::Fresh)
+    }
+
     /// The first operation of its next instruction.
-    fn planned_op(&self, shared: &Shared) -> Op
+    fn planned_op(&self, shared: &Shared, next: &Next) -> Op
         requires sound { IsSound shared.now }
         requires fits { StandingFits shared.now self.now }
         requires fresh { self.now.doing ≡ Doing.Fresh }
+        requires next { IsNext self.now.class self.now.process (plan shared.now self.now.class self.now.process) next.now }
+        requires passed { NextPassed shared.now.table self.now.process next.now }
         ensures { result ≡ op_at self.now.class (next_op shared.now self.now.class (running_of shared.now self.now)) }
     {
-        match self.state.next(shared, self.class) {
-            Next::Ask(request) => first_op(shared, self.class, &self.state, &request),
+        match next {
+            Next::Ask(request) => first_op(shared, self.class, &self.state, request),
             _ => Op::Nothing,
         }
     }
@@ -159,15 +174,68 @@ impl Process {
     {
         shared.shared_law();
         shared.table().table_law();
-        match self.doing {
-            Doing::Fresh => self.absorb_first(shared, free, answer),
-            _ => self.absorb_next(shared, answer),
+        if self.is_fresh() {
+            let next = self.state.next(shared, self.class);
+            self.absorb_first(shared, &next, free, answer)
+        } else {
+            self.absorb_next(shared, answer)
         }
+    }
+
+    /// Takes one step: performs its operation on a port of words, and takes the answer as `absorb` does.
+    pub fn step<W: WordPort>(&mut self, port: &mut W, shared: &Shared, free: Option<u8>) -> Absorbed
+        requires live { self.old.process.live ≡ true }
+        requires fits { StandingFits shared.now self.old }
+        requires layout { W.classes port.old ≡ classes shared.now }
+        ensures step { StandingSteps W.relation shared.now self.old free port.old self.new port.new result }
+        ensures fits { StandingFits shared.now self.new }
+        ensures layout { W.classes port.new ≡ classes shared.now }
+    {
+        shared.shared_law();
+        shared.table().table_law();
+        if self.is_fresh() {
+            self.step_first(port, shared, free)
+        } else {
+            self.step_next(port, shared)
+        }
+    }
+
+    /// The first step of an instruction, which is planned once.
+    fn step_first<W: WordPort>(
+        &mut self,
+        port: &mut W,
+        shared: &Shared,
+        free: Option<u8>,
+    ) -> Absorbed
+        requires sound { IsSound shared.now }
+        requires fits { StandingFits shared.now self.old }
+        requires fresh { self.old.doing ≡ Doing.Fresh }
+        requires layout { W.classes port.old ≡ classes shared.now }
+        ensures step { StandingSteps W.relation shared.now self.old free port.old self.new port.new result }
+        ensures layout { W.classes port.new ≡ classes shared.now }
+    {
+        let next = self.state.next(shared, self.class);
+        let answer = port.perform(self.planned_op(shared, &next));
+        self.absorb_first(shared, &next, free, answer)
+    }
+
+    /// A step that isn't the first of its instruction.
+    fn step_next<W: WordPort>(&mut self, port: &mut W, shared: &Shared) -> Absorbed
+        requires sound { IsSound shared.now }
+        requires fits { StandingFits shared.now self.old }
+        requires begun { self.old.doing ≡ Doing.Fresh → ⊥ }
+        requires layout { W.classes port.old ≡ classes shared.now }
+        ensures step { (free : Option ℕ) → StandingSteps W.relation shared.now self.old free port.old self.new port.new result }
+        ensures layout { W.classes port.new ≡ classes shared.now }
+    {
+        let answer = port.perform(self.doing.next_op(shared.table(), self.class));
+        self.absorb_next(shared, answer)
     }
 
     /// Takes the answer at a step that isn't the first of its instruction.
     fn absorb_next(&mut self, shared: &Shared, answer: u64) -> Absorbed
         requires fits { StandingFits shared.now self.old }
+        requires begun { self.old.doing ≡ Doing.Fresh → ⊥ }
         requires place { self.old.process.place < 256 }
         requires table { self.old.class < classes shared.now }
         ensures { Absorbs shared.now self.old self.new (after_told self.old.process (doing_told (doing_in shared.now.table self.old.doing) answer)) result }
@@ -175,7 +243,7 @@ impl Process {
         let step = self
             .doing
             .step(self.class, &mut self.state, shared.table(), answer);
-        self.doing.end_if(step.over);
+        self.over = step.over;
         Absorbed {
             outcome: with_reply(&self.state, step.outcome),
             made: Made::Nothing,
@@ -184,16 +252,24 @@ impl Process {
     }
 
     /// Takes the answer at the first step of its next instruction.
-    fn absorb_first(&mut self, shared: &Shared, free: Option<u8>, answer: u64) -> Absorbed
+    fn absorb_first(
+        &mut self,
+        shared: &Shared,
+        next: &Next,
+        free: Option<u8>,
+        answer: u64,
+    ) -> Absorbed
         requires sound { IsSound shared.now }
         requires fits { StandingFits shared.now self.old }
         requires fresh { self.old.doing ≡ Doing.Fresh }
+        requires next { IsNext self.old.class self.old.process (plan shared.now self.old.class self.old.process) next.now }
+        requires passed { NextPassed shared.now.table self.old.process next.now }
         ensures { Absorbs shared.now self.old self.new (absorb shared.now self.old.class (running_of shared.now self.old) free answer) result }
     {
-        match self.state.next(shared, self.class) {
+        match next {
             Next::Own => self.perform(shared),
-            Next::Begin { script, start } => self.begin_process(free, script, start),
-            Next::Ask(request) => self.ask(shared, &request, answer),
+            Next::Begin { script, start } => self.begin_process(free, *script, *start),
+            Next::Ask(request) => self.ask(shared, request, answer),
         }
     }
 
@@ -260,7 +336,15 @@ impl Process {
                 effect: absorbed.effect,
             }
         } else {
-            self.doing = begin(shared, self.class, &self.state, request, answer);
+            begin(
+                &mut self.doing,
+                shared,
+                self.class,
+                &self.state,
+                request,
+                answer,
+            );
+            self.over = false;
             Absorbed {
                 outcome: Outcome::Going,
                 made: Made::Nothing,

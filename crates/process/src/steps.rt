@@ -225,7 +225,7 @@ pub fn step_update(gate: &mut Update, state: &mut ProcessState, answer: u64) -> 
 impl Doing {
     ghost use Rattle.words_layout.specs.Named.{op_at};
     ghost use Rattle.turns.specs.Doing.{doing_op};
-    ghost use Rattle.process.specs.Standing.{doing_in, ended_if, IsHeld};
+    ghost use Rattle.process.specs.Standing.{doing_in, IsHeld};
 
     /// The next operation of an unfinished instruction of a process of a class.
     pub fn next_op(&self, table: &ClassTable, class: u8) -> Op
@@ -273,15 +273,6 @@ impl Doing {
             Doing::SwapOut(gate) => step_swap_out(gate, state, answer),
             Doing::Fetch { gate, pad } => step_fetch(gate, *pad, state, answer),
             Doing::Update(gate) => step_update(gate, state, answer),
-        }
-    }
-
-    /// An instruction that is over is followed by one that isn't begun.
-    pub fn end_if(&mut self, over: bool)
-        ensures { self.new ≡ ended_if over self.old }
-    {
-        if over {
-            *self = Doing::Fresh;
         }
     }
 }

@@ -1,7 +1,7 @@
 -- Console lines by place.
 use Rattle.std.proofs.Common.{◌≡◌, ◌≢◌, ℕ, ◌+◌, ◌-◌, ◌<◌, ◌≤◌, List, [], ◌∷◌, ◌++◌, length, take, drop, get_or, refl, sym, ap, subst, ◌∙◌, arith, Option, Some, None}
 use Rattle.std.proofs.lemmas.Bool.{eq-eqb, eqb-true, false_from_ne_true}
-use Rattle.std.proofs.lemmas.List.{take_more, take_all, drop_more, take-append-drop, get_or_past}
+use Rattle.std.proofs.lemmas.List.{take_more, drop_more, take-append-drop, get_or_past}
 use Rattle.std.proofs.lemmas.List.Folds.{find-append}
 use Rattle.std.specs.Prelude.{◌==◌}
 use Rattle.std.specs.List.{find, flat_map, filter_map, cons_option}
@@ -44,9 +44,6 @@ value_here xs i k d h none e =
 pub value_past : (xs : List (ℕ × ℕ)) (i k : ℕ) (d : ℕ × ℕ) → i < length xs → value_in (take i xs) k ≡ None → (get_or xs i d).0 ≢ k → value_in (take (i + 1) xs) k ≡ None
 value_past xs i k d h none e =
     ap (λ (ys : List (ℕ × ℕ)). value_in ys k) (take_more xs i d h) ∙ (value_skip (take i xs) (get_or xs i d ∷ []) k none ∙ one_other (get_or xs i d) k e)
-
-pub value_none : (xs : List (ℕ × ℕ)) (i k : ℕ) → length xs ≤ i → value_in (take i xs) k ≡ None → value_in xs k ≡ None
-value_none xs i k h none = ap (λ (ys : List (ℕ × ℕ)). value_in ys k) (sym (take_all i xs h)) ∙ none
 
 -- a virtual processor that there isn't
 pub vp_past : (banks : List (List Processing)) (p c : ℕ) → length banks ≤ p → vp_at banks p c ≡ no_processing

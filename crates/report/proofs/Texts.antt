@@ -1,9 +1,9 @@
 -- Lines as their words, and what is pushed part by part.
-use Rattle.std.proofs.Common.{◌≡◌, ℕ, suc, ◌+◌, ◌<◌, ◌≤◌, List, [], ◌∷◌, ◌++◌, length, take, get_or, map, refl, sym, ap, subst, ◌∙◌, le_trans, arith, append_assoc, length-append}
+use Rattle.std.proofs.Common.{◌≡◌, ℕ, suc, ◌+◌, ◌<◌, ◌≤◌, List, [], ◌∷◌, ◌++◌, length, take, get_or, map, refl, sym, ap, subst, ◌∙◌, arith, append_assoc, length-append}
 use Rattle.std.proofs.lemmas.List.{append-nil, take-append-le, take_all, map_more, flat_map_more}
 use Rattle.std.specs.Fmt.{decimal}
 use Rattle.std.specs.List.{flat_map, join_with_byte}
-use Rattle.std.specs.Prelude.{Some, None, codes, Result, Ok, Err, IsOk, IsErr}
+use Rattle.std.specs.Prelude.{Some, None, codes, Result, Ok, Err, IsErr}
 use Rattle.host_ports.specs.Ports.{Port, Told, PushKeeps, IsPrefixTaken, Rose, with_bytes}
 use Rattle.report.specs.Printing.{Pushed, Torn, Prints}
 use Rattle.report.specs.declared.printing.WriteFault.{WriteFault}
@@ -29,18 +29,18 @@ keeps_on before now after f g = record { left = g.left ∙ f.left; pulls = g.pul
 
 -- nothing is pushed yet
 pub pushed_none : (before : ℕ → Port) → Pushed before before []
-pushed_none before = record { taken = with_none (before 0).taken; keeps = record { left = refl; pulls = refl; others = λ p n. refl }; later = omega arith }
+pushed_none before = record { taken = with_none (before 0).taken; keeps = record { left = refl; pulls = refl; others = λ p n. refl }; stays = refl }
 
 -- one part, and then the next
 pub pushed_then : (before now after : ℕ → Port) (xs ys : List ℕ) → Pushed before now xs → Pushed now after ys → Pushed before after (xs ++ ys)
 pushed_then before now after xs ys f g = record {
   taken = g.taken ∙ (ap (λ (t : Told). with_bytes t ys) f.taken ∙ with_more (before 0).taken xs ys);
   keeps = keeps_on before now after f.keeps g.keeps;
-  later = le_trans f.later g.later;
+  stays = g.stays ∙ f.stays;
 }
 
-rose_on : (a b c : ℕ) → a ≤ b → Rose b c → Rose a c
-rose_on a b c h r = omega arith
+rose_on : (a b c : ℕ) → b ≡ a → Rose b c → Rose a c
+rose_on a b c e r = subst (λ (m : ℕ). Rose m c) e r
 
 prefix_on : (b m a : Told) (xs ys : List ℕ) → m ≡ with_bytes b xs → IsPrefixTaken m a ys → IsPrefixTaken b a (xs ++ ys)
 prefix_on b m a xs ys e p = record {
@@ -58,7 +58,7 @@ pub pushed_torn : (before now after : ℕ → Port) (xs ys : List ℕ) → Pushe
 pushed_torn before now after xs ys f g = record {
   taken = prefix_on (before 0).taken (now 0).taken (after 0).taken xs ys f.taken g.taken;
   keeps = keeps_on before now after f.keeps g.keeps;
-  rose = rose_on (before 0).pushes (now 0).pushes (after 0).pushes f.later g.rose;
+  rose = rose_on (before 0).pushes (now 0).pushes (after 0).pushes f.stays g.rose;
 }
 
 -- a fault before more that is due
@@ -90,10 +90,6 @@ registers_end line next xs i h e n =
 pub err_prints : (before after : ℕ → Port) (text : List ℕ) (r : Result (Unit {0}) WriteFault) → IsErr r → Torn before after text → Prints before after text r
 err_prints before after text (Ok x) h t = cc
 err_prints before after text (Err e) h t = t
-
-pub ok_prints : (before after : ℕ → Port) (text : List ℕ) (r : Result (Unit {0}) WriteFault) → IsOk r → Pushed before after text → Prints before after text r
-ok_prints before after text (Ok x) h t = t
-ok_prints before after text (Err e) h t = cc
 
 -- one part, and then the last one
 pub prints_then : (before now after : ℕ → Port) (xs ys : List ℕ) (r : Result (Unit {0}) WriteFault) → Pushed before now xs → Prints now after ys r → Prints before after (xs ++ ys) r

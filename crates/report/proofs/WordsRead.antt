@@ -1,5 +1,5 @@
 -- Words within the layout, and the sum of the components.
-use Rattle.std.proofs.Common.{◌≡◌, ℕ, ◌+◌, ◌*◌, ◌%◌, ◌^◌, ◌<◌, ◌≤◌, Bool, true, false, List, [], ◌∷◌, ◌++◌, length, map, refl, sym, ap, ◌∙◌, arith}
+use Rattle.std.proofs.Common.{◌≡◌, ℕ, ◌+◌, ◌%◌, ◌^◌, ◌<◌, Bool, true, false, List, [], ◌∷◌, ◌++◌, map, refl, sym, ap, ◌∙◌}
 use Rattle.std.proofs.lemmas.Bool.{and_from, lt-ltb}
 use Rattle.std.proofs.lemmas.List.{append-nil, map_push}
 use Rattle.std.proofs.lemmas.List.Elements.{filter-append}
@@ -12,11 +12,7 @@ use Rattle.words_layout.specs.Words.{Word, address, Guarded, EntryOf, FrameWord,
 use Rattle.words_layout.specs.Limits.{IsIdentity, identity_in_limits, word_in_limits}
 use Rattle.words_layout.specs.Named.{word_in}
 use Rattle.words_layout.specs.declared.segment.SegId.{SegId}
-use Rattle.report.specs.Found.{HasClass}
 use Rattle.report.proofs.Numbers.{below_more}
-
-pub has_class : (words : List ℕ) (n class : ℕ) → length words ≡ 34869 * n → class < n → n ≤ 16 → HasClass words class
-has_class words n class e h k = record { few = omega arith; there = omega arith }
 
 pub identity_ok : (u : SegId) → IsIdentity u → identity_in_limits u ≡ true
 identity_ok u h = and_from (nat_lt u.mentor 16) (nat_lt u.serial 64) (lt-ltb u.mentor 16 h.0) (lt-ltb u.serial 64 h.1)

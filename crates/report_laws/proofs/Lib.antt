@@ -1,5 +1,4 @@
 pub mod Printing
-pub mod Taken
 pub mod Paged
 pub mod Recorded
 pub mod OpeningHolds

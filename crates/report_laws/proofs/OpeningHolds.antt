@@ -1,7 +1,7 @@
 -- The guarded words of the opening hold what the cells of the opening are.
 use Rattle.std.proofs.Common.{ℕ, zero, suc, ◌+◌, ◌<◌, ◌≤◌, ◌≢◌, true, ◌&&◌, List, [], ◌∷◌, ◌≡◌, refl, sym, ap, subst, ◌∙◌, Option, Some, None, arith, length, map}
 use Rattle.std.proofs.lemmas.Bool.{and_parts, and_from, eqb-true, eq-eqb, lt-ltb, le-leb, leb-true}
-use Rattle.std.specs.Prelude.{◌==◌, nat_le, nat_lt, slice_get, slice_index, is_some}
+use Rattle.std.specs.Prelude.{◌==◌, nat_le, slice_get, slice_index, is_some}
 use Rattle.std.specs.List.{find}
 use Rattle.std.specs.Option.{option_map, option_map_or, option_and_then}
 use Rattle.lists.specs.Lists.{numbers_from}
@@ -14,7 +14,6 @@ use Rattle.words_layout.specs.declared.coding.Alias.{Alias}
 use Rattle.words_layout.specs.declared.coding.Home.{Home}
 use Rattle.words_layout.specs.declared.coding.Home.TheVariants as H
 use Rattle.words_layout.specs.declared.segment.SegId.{SegId}
-use Rattle.policy.specs.Known.{in_table, alias_brackets}
 use Rattle.class_model.specs.Config.{Config, SegRecord, pool_of, shared_of}
 use Rattle.class_model.specs.Run.{alias_of, kept_of, opening_cell, opening_entry, opening_home, opening_part}
 use Rattle.class_model.specs.State.{entry_at}
@@ -23,9 +22,8 @@ use Rattle.machine.specs.Reading.{words_from}
 use Rattle.machine.specs.Stands.{ClassHolds, SegmentHolds, StoredHolds, HomeHolds, Holds, names_frame, names_page}
 use Rattle.flow_laws.proofs.Lists.{filtered_at}
 use Rattle.flow_laws.proofs.LowValid.{seg_is}
-use Rattle.report_laws.proofs.Paged.{PositionIs, position_is, position_none, position_of, get_within, find_passes, apart_filter, kept_found}
+use Rattle.report_laws.proofs.Paged.{find_true, PositionIs, position_is, position_none, position_of, get_within, find_passes, apart_filter, kept_found}
 use Rattle.report_laws.proofs.Recorded.{FitRecords, IsSmall, is_small, small_record}
-use Rattle.report_laws.proofs.Taken.{find_true}
 
 -- the words of a list, read by their places
 read_words : (at : ℕ → ℕ) (ws : List ℕ) (a : ℕ) → ((i : ℕ) → at (a + i) ≡ slice_index ws i) → map at (numbers_from a (length ws)) ≡ ws
@@ -165,18 +163,6 @@ module _ (k : Config) (fit : FitRecords k) (d : ℕ) where
   entry_there u (suc (suc (suc (suc (suc (suc zero)))))) = refl
   entry_there u (suc (suc (suc (suc (suc (suc (suc zero))))))) = refl
   entry_there u (suc (suc (suc (suc (suc (suc (suc (suc e)))))))) = entry_past u (suc (suc (suc (suc (suc (suc (suc (suc e)))))))) (omega arith)
-
-  -- the entries of the opening are in the table
-  pub entries_in_table : (u : SegId) (e : ℕ) → in_table k.table (entry_at (opening_cell k d u) e) ≡ entry_at (opening_cell k d u) e
-  entries_in_table u e = ap (in_table k.table) (sym (entry_there u e)) ∙ by_entry (opening_entry k d u e) refl ∙ entry_there u e
-    where
-      by_entry : (o : Option Alias) → opening_entry k d u e ≡ o → in_table k.table o ≡ o
-      by_entry None h = refl
-      by_entry (Some a) h =
-          let i : IsEntry e a = is_entry u e a h in
-          let fits : (nat_lt (alias_of i.of_one).class (length k.table) && in_order (alias_brackets (alias_of i.of_one))) ≡ true = and_from _ _ (lt-ltb i.of_one.class (length k.table) i.small.class) i.small.in_order in
-          let fits_a : (nat_lt a.class (length k.table) && in_order (alias_brackets a)) ≡ true = subst (λ (x : Alias). (nat_lt x.class (length k.table) && in_order (alias_brackets x)) ≡ true) i.is fits in
-          rw fits_a refl
 
   -- ---- frames and pages
 

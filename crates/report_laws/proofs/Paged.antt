@@ -1,5 +1,5 @@
 -- Records with kept words, and their pages by place.
-use Rattle.std.proofs.Common.{ℕ, zero, suc, ◌<◌, ◌≤◌, Bool, true, false, not, ◌&&◌, List, [], ◌∷◌, ◌≡◌, refl, sym, ap, ◌∙◌, Option, Some, None, arith, length}
+use Rattle.std.proofs.Common.{ℕ, zero, suc, ◌<◌, ◌≤◌, Bool, true, false, not, ◌&&◌, List, [], ◌∷◌, ◌≡◌, refl, sym, ap, ◌∙◌, Option, Some, None, cond, arith, length}
 use Rattle.std.proofs.lemmas.Bool.{and_parts, and_from, eq-eqb, ltb-true, ltb-false, lt-ltb}
 use Rattle.std.proofs.lemmas.List.Folds.{find_at}
 use Rattle.std.specs.Prelude.{◌==◌, if◌then◌else◌, nat_lt, slice_get, is_some}
@@ -9,7 +9,14 @@ use Rattle.words_layout.specs.Segments.{same_seg}
 use Rattle.words_layout.specs.declared.segment.SegId.{SegId}
 use Rattle.class_model.specs.Config.{SegRecord}
 use Rattle.flow_laws.proofs.LowValid.{seg_is}
-use Rattle.report_laws.proofs.Taken.{find_true}
+
+-- what find finds passes the test
+pub find_true : {X : Type 0} (test : X → Bool) (xs : List X) (x : X) → find test xs ≡ Some x → test x ≡ true
+find_true test [] x h = cc
+find_true test (y ∷ ys) x h = elim (test y) as (λ b. test y ≡ b → cond b (Some y) (find test ys) ≡ Some x → test x ≡ true) [
+  | true ↦ λ e k. let same : y ≡ x = cc in rw (← same) e
+  | false ↦ λ e k. find_true test ys x k
+] refl h
 
 -- ---- lists
 

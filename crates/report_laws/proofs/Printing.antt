@@ -24,10 +24,6 @@ read_numbered give (suc n) a xs h each = by_list (λ ys g e. read_numbered give 
     by_list rest [] g e = rw (first None (e 0)) (rest [] (let z : length {A = ℕ} [] ≤ n = omega arith in z) (λ i. next i ∙ e (suc i)))
     by_list rest (y ∷ ys) g e = rw (first (Some y) (e 0)) (ap (λ zs. y ∷ zs) (rest ys (omega arith) (λ i. next i ∙ e (suc i))))
 
--- the lines of the buffers of some processors
-abbrev pub gathered : (ℕ → List (ℕ × ℕ)) → List ℕ → List (ℕ × ℕ)
-gathered buffers ps = flat_map buffers ps
-
 or_none : {X : Type 0} (o : Option X) → option_or o None ≡ o
 or_none None = refl
 or_none (Some x) = refl
@@ -78,6 +74,7 @@ pub record IsPrinted (console : ℕ) (buffers : ℕ → List (ℕ × ℕ)) (used
   pub short : (p : ℕ) → length (buffers p) ≤ used
   pub each : used ≤ console → length lines ≡ used
   pub within : length lines ≤ console
+  pub count : length (flat_map buffers (below 4)) ≡ length lines
   pub at : (q : ℕ) → option_map (λ (x : ℕ × ℕ). x.1) (find (λ (x : ℕ × ℕ). x.0 == q) (flat_map buffers (below 4))) ≡ slice_get lines q
 
 -- they are printed in the order of their places
@@ -93,6 +90,7 @@ full_printed console buffers used lines full h = record {
   short = λ p. (let e = h.short p in omega (arith, e));
   each = λ room. absurd (omega arith);
   within = h.within;
+  count = h.count;
   at = h.at;
 }
 
@@ -118,6 +116,14 @@ is_below_four (suc (suc zero)) h = refl
 is_below_four (suc (suc (suc zero))) h = refl
 is_below_four (suc (suc (suc (suc p)))) h = absurd (omega arith)
 
+-- there is one line more
+one_more : (buffers : ℕ → List (ℕ × ℕ)) (p : ℕ) (x : ℕ × ℕ) → p < 4 → length (flat_map (put buffers p (buffers p ++ x ∷ [])) (below 4)) ≡ length (flat_map buffers (below 4)) + 1
+one_more buffers zero x h = simp length-append (omega arith)
+one_more buffers (suc zero) x h = simp length-append (omega arith)
+one_more buffers (suc (suc zero)) x h = simp length-append (omega arith)
+one_more buffers (suc (suc (suc zero))) x h = simp length-append (omega arith)
+one_more buffers (suc (suc (suc (suc p)))) x h = absurd (omega arith)
+
 -- a new line in the buffer of a processor
 pub line_printed : (console : ℕ) (buffers : ℕ → List (ℕ × ℕ)) (used : ℕ) (lines : List ℕ) (p value : ℕ) → p < 4 → used < console → IsPrinted console buffers used lines →
     IsPrinted console (put buffers p (buffers p ++ (used, value) ∷ [])) (used + 1) (lines ++ value ∷ [])
@@ -127,6 +133,7 @@ line_printed console buffers used lines p value small room h =
       short = λ q. by_place count q (q == p) refl;
       each = λ e. (let l = length-append lines (value ∷ []) in omega (arith, l, count));
       within = (let l = length-append lines (value ∷ []) in omega (arith, l, count));
+      count = (let l = length-append lines (value ∷ []) in let b = h.count in let m = one_more buffers p (used, value) small in omega (arith, l, b, m));
       at = λ q. by_number count q (used == q) refl;
     }
   where

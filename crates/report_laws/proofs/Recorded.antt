@@ -1,15 +1,16 @@
 -- What the words at the opening rest on: the records of a valid configuration are in order.
-use Rattle.std.proofs.Common.{ℕ, ◌<◌, ◌≤◌, Bool, true, false, not, ◌&&◌, List, [], ◌∷◌, ◌≡◌, refl, sym, subst, arith, length}
+use Rattle.std.proofs.Common.{ℕ, ◌<◌, ◌≤◌, Bool, true, false, not, ◌&&◌, ◌||◌, List, [], ◌∷◌, ◌≡◌, refl, sym, subst, arith, length}
 use Rattle.std.proofs.lemmas.Bool.{and_parts, and_from, ltb-true, lt-ltb, leb-true, le-leb, eqb-true, ltb-false}
 use Rattle.std.proofs.lemmas.List.Sums.{length-filter}
 use Rattle.std.specs.Prelude.{◌==◌, nat_le, nat_lt, is_some}
 use Rattle.std.specs.List.{count_by, filter, list_all}
 use Rattle.std.specs.Option.{option_map_or}
 use Rattle.lists.specs.Lists.{below}
+use Rattle.labels.specs.Label.{at_or_below}
 use Rattle.rings.specs.Brackets.{in_order}
 use Rattle.words_layout.specs.Segments.{same_seg}
 use Rattle.class_model.specs.Config.{Config, SegRecord, shared_of, pool_of}
-use Rattle.class_model.specs.Valid.{IsConfig, record_ok, records_distinct, pages_ok, within}
+use Rattle.class_model.specs.Valid.{IsConfig, record_ok, records_distinct, pages_ok, within, is_root, mentor_ok}
 use Rattle.machine.specs.Opening.{paged}
 use Rattle.flow_laws.proofs.Records.{IsRecord, is_record}
 use Rattle.flow_laws.proofs.FlowLaws.{records_ok}
@@ -55,6 +56,28 @@ is_small classes r h =
     }
 
 -- ---- of a valid configuration
+
+-- more of what a record of a valid configuration is
+pub record RecordStands (k : Config) (r : SegRecord) : Type 0 where
+  pub other : not (is_root r.seg) ≡ true
+  pub flows_up : at_or_below k.table r.mentor.mentor r.seg.mentor ≡ true
+  pub later : (not (r.mentor.mentor == r.seg.mentor) || nat_lt r.mentor.serial r.seg.serial) ≡ true
+
+pub record_stands : (k : Config) (r : SegRecord) → record_ok k r ≡ true → RecordStands k r
+record_stands k r h =
+    let a1 = and_parts _ (mentor_ok k r) h in
+    let a2 = and_parts _ (option_map_or (λ (words : List ℕ). length words == r.size) r.kept true) a1.0 in
+    let a3 = and_parts _ (not (r.mentor.mentor == r.seg.mentor) || nat_lt r.mentor.serial r.seg.serial) a2.0 in
+    let a4 = and_parts _ (at_or_below k.table r.mentor.mentor r.seg.mentor) a3.0 in
+    let a5 = and_parts _ (nat_lt r.entry 8) a4.0 in
+    let a6 = and_parts _ (nat_lt r.mentor.serial 64) a5.0 in
+    let a7 = and_parts _ (within 1 64 r.size) a6.0 in
+    let a8 = and_parts _ (in_order r.brackets) a7.0 in
+    let a9 = and_parts _ (at_or_below k.table r.seg.mentor r.class) a8.0 in
+    let b1 = and_parts _ (nat_lt r.mentor.mentor (length k.table)) a9.0 in
+    let b2 = and_parts _ (nat_lt r.class (length k.table)) b1.0 in
+    let b3 = and_parts _ (not (is_root r.seg)) b2.0 in
+    record { other = b3.1; flows_up = a4.1; later = a3.1 }
 
 small_of : (k : Config) (r : SegRecord) → record_ok k r ≡ true → small_record (length k.table) r ≡ true
 small_of k r h =

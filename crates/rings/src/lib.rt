@@ -112,6 +112,3 @@ impl Brackets {
         }
     }
 }
-
-#[cfg(test)]
-mod tests;

@@ -24,7 +24,7 @@ fn item_count(config: &Config, item: &Item) -> usize
         Item::Events { count, .. } => count as usize,
         Item::Mix { count, .. } => count as usize,
         Item::Sweep { rounds } => {
-            rounds as usize * config.quantum as usize * config.processors as usize
+            rounds as usize * config.quantum as usize * usize::from(config.processors)
         }
     }
 }

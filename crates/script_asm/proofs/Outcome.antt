@@ -36,7 +36,7 @@ its_number code.End = refl
 its_number code.Past = refl
 
 -- No two codes have the same number.
-apart : (a b : Code) → code_number a ≡ code_number b → a ≡ b
+pub apart : (a b : Code) → code_number a ≡ code_number b → a ≡ b
 apart a b e = sym (its_number a) ∙ ap numbered e ∙ its_number b
 
 name_rises : (all : List (List Word)) (line : ℕ) (w : Word) (ws : List Word) → Rises code_number 1 (name_tests all line w ws)
@@ -77,7 +77,7 @@ abbrev reached : Place → Result Place (ℕ × Code)
 reached p = Ok p
 
 pub refused_right : (ls : List (List ℕ)) (e : AsmError) → Reads (Err e) (answer_of ls) → AnswersScript ls (Err e)
-refused_right ls (error.Fault line n) reads = read_fault ls line n reads.0 reads.1 reads.2
+refused_right ls (error.Fault line c) reads = read_fault ls line (code_number c) c reads refl
 refused_right ls error.NoMemory reads = tt
 
 -- what the ls says is what is read
@@ -95,9 +95,9 @@ only_program ls q e program s =
     ap (λ x. x.program) same ∙ r.2
 
 pub only_error : (ls : List (List ℕ)) (e : AsmError) → Reads (Err e) (answer_of ls) → (program : List Instr) → Spells ls program → IsReadAs program (Err e)
-only_error ls (error.Fault line n) reads program s =
+only_error ls (error.Fault line c) reads program s =
     let r = says_read ls program (spells_says ls program s) in
-    let both : reached r.0 ≡ fault_at line reads.0 = sym r.1 ∙ reads.1 in
+    let both : reached r.0 ≡ fault_at line c = sym r.1 ∙ reads in
     absurd cc
 only_error ls error.NoMemory reads program s = tt
 
@@ -108,11 +108,11 @@ refused_program ls q e line n f =
     absurd cc
 
 pub refused_error : (ls : List (List ℕ)) (e : AsmError) → Reads (Err e) (answer_of ls) → (line n : ℕ) → IsFault ls line n → IsRefusedWith line n (Err e)
-refused_error ls (error.Fault l m) reads line n f =
+refused_error ls (error.Fault l c) reads line n f =
     let r = fault_read ls line n f in
-    let both : fault_at l reads.0 ≡ fault_at line r.0 = sym reads.1 ∙ r.1 in
-    let parts = some_pair_parts l line reads.0 r.0 (ap result_err both) in
-    (parts.0, reads.2 ∙ ap code_number parts.1 ∙ sym r.2)
+    let both : fault_at l c ≡ fault_at line r.0 = sym reads ∙ r.1 in
+    let parts = some_pair_parts l line c r.0 (ap result_err both) in
+    (parts.0, ap code_number parts.1 ∙ sym r.2)
 refused_error ls error.NoMemory reads line n f = tt
 
 pub read_spells : (ls : List (List ℕ)) (q : Place) → answer_of ls ≡ Ok q → Spells ls q.program

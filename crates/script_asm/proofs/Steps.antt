@@ -8,7 +8,7 @@ use Rattle.script_lang.specs.Fault.{ends_well}
 use Rattle.script_asm.specs.declared.fault.Code.{Code}
 use Rattle.script_asm.specs.declared.fault.Code.TheVariants as code
 use Rattle.script_asm.specs.Operand.{Word}
-use Rattle.script_asm.specs.Script.{code_number, Place, line_tests, next_place, script_rules}
+use Rattle.script_asm.specs.Script.{Place, line_tests, next_place, script_rules}
 
 pub goes_on : (all : List (List Word)) (p q : Place) (n : ℕ) (left more : List (List ℕ)) (line : List ℕ) (total : Result Place (ℕ × Code)) → left ≡ line ∷ more → judged (line_tests all p line) (next_place all p (words_of line)) ≡ Ok q → lines_answer (script_rules all) p n left ≡ total → lines_answer (script_rules all) q (n + 1) more ≡ total
 goes_on all p q n left more line total e taken so_far = generic.goes_on (script_rules all) p q n left more line total e taken so_far
@@ -22,8 +22,4 @@ ends all p n left total e good so_far = generic.ends (script_rules all) p n left
 pub missing : (all : List (List Word)) (p : Place) (n : ℕ) (left : List (List ℕ)) (total : Result Place (ℕ × Code)) → left ≡ [] → ends_well p.program ≡ false → lines_answer (script_rules all) p n left ≡ total → total ≡ Err (n, code.End)
 missing all p n left total e bad so_far = generic.ends_short (script_rules all) p n left code.End total e (rw bad refl) so_far
 
--- the code of the end
-pub ends_badly : (all : List (List Word)) (p : Place) (n : ℕ) (left : List (List ℕ)) (total : Result Place (ℕ × Code)) → left ≡ [] → ends_well p.program ≡ false → lines_answer (script_rules all) p n left ≡ total → (c : Code) × (total ≡ Err (n, c)) × (8 ≡ code_number c)
-ends_badly all p n left total e bad so_far = (code.End, missing all p n left total e bad so_far, refl)
-
-pub ruleset steps = (goes_on, stops, ends, ends_badly, views_at, views_past)
+pub ruleset steps = (goes_on, stops, ends, missing, views_at, views_past)

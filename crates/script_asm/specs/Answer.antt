@@ -19,23 +19,23 @@ IsFault ls line number = (c : Code) × (number ≡ code_number c) × IsFirstFaul
 -- what is answered: the program that the lines spell, their first fault, or want of memory
 abbrev pub AnswersScript : List (List ℕ) → Result (List Instr) AsmError → Type 0
 AnswersScript ls (Ok program) = Spells ls program
-AnswersScript ls (Err (error.Fault line number)) = IsFault ls line number
+AnswersScript ls (Err (error.Fault line c)) = IsFault ls line (code_number c)
 AnswersScript ls (Err error.NoMemory) = Unit {0}
 
 -- It is read as this program, unless memory runs out.
 abbrev pub IsReadAs : List Instr → Result (List Instr) AsmError → Type 0
 IsReadAs program (Ok p) = p ≡ program
-IsReadAs program (Err (error.Fault line number)) = ⊥
+IsReadAs program (Err (error.Fault line c)) = ⊥
 IsReadAs program (Err error.NoMemory) = Unit {0}
 
 -- It is refused with this fault, unless memory runs out.
 abbrev pub IsRefusedWith : ℕ → ℕ → Result (List Instr) AsmError → Type 0
 IsRefusedWith line number (Ok p) = ⊥
-IsRefusedWith line number (Err (error.Fault l n)) = (l ≡ line) × (n ≡ number)
+IsRefusedWith line number (Err (error.Fault l c)) = (l ≡ line) × (code_number c ≡ number)
 IsRefusedWith line number (Err error.NoMemory) = Unit {0}
 
 -- The lines without a code have only allowed bytes: all lines of a program, and those before the first faulty one.
 abbrev pub AllowsBytes : List (List ℕ) → Result (List Instr) AsmError → Type 0
 AllowsBytes ls (Ok program) = are_allowed ls ≡ true
-AllowsBytes ls (Err (error.Fault line number)) = are_allowed (take (line - 1) ls) ≡ true
+AllowsBytes ls (Err (error.Fault line c)) = are_allowed (take (line - 1) ls) ≡ true
 AllowsBytes ls (Err error.NoMemory) = Unit {0}

@@ -6,7 +6,7 @@ use Rattle.script_asm.specs.declared.fault.Refusal.TheVariants as refusal
 use Rattle.script_asm.specs.declared.fault.AsmError.{AsmError}
 use Rattle.script_asm.specs.declared.fault.AsmError.TheVariants as error
 use Rattle.script_asm.specs.declared.draft.Draft.{Draft}
-use Rattle.script_asm.specs.Script.{Place, code_number}
+use Rattle.script_asm.specs.Script.{Place}
 
 -- what the lines so far say
 abbrev pub place_of : Draft → Place
@@ -21,5 +21,5 @@ Answers old new (Err refusal.Memory) answer = Unit {0}
 -- what reading answers, by the answer to its lines
 abbrev pub Reads : Result Draft AsmError → Result Place (ℕ × Code) → Type 0
 Reads (Ok d) answer = answer ≡ Ok (place_of d)
-Reads (Err (error.Fault line n)) answer = (c : Code) × (answer ≡ Err (line, c)) × (n ≡ code_number c)
+Reads (Err (error.Fault line c)) answer = answer ≡ Err (line, c)
 Reads (Err error.NoMemory) answer = Unit {0}

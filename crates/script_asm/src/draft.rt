@@ -22,7 +22,7 @@ use text_lines::{is_allowed_line, word_list};
 pub struct Draft {
     /// How many lines there were.
     pub line: u64,
-    /// Their instructions.
+    /// The instructions of these lines.
     pub program: Vec<Instr>,
 }
 

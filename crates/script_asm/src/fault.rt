@@ -5,6 +5,7 @@ ghost use Rattle.script_asm.specs.declared.fault.Refusal.TheVariants.{Memory};
 ghost use Rattle.script_asm.specs.declared.fault.AsmError.TheVariants.{NoMemory};
 
 use std::alloc::{AllocError, AllocFailed};
+use std::fmt;
 
 /// What is wrong with a line.
 #[derive(Clone, Copy, Debug, PartialEq, Eq)]
@@ -32,7 +33,9 @@ pub enum Code {
 /// Why a line isn't taken.
 #[derive(Clone, Copy, Debug)]
 pub enum Refusal {
+    /// What is wrong with it.
     Code(Code),
+    /// Memory ran out.
     Memory,
 }
 
@@ -55,23 +58,28 @@ impl<T: Drop> From<AllocFailed<T>> for Refusal {
 /// Why a text, or a list of lines, is no script.
 #[derive(Clone, Copy, Debug, PartialEq, Eq)]
 pub enum AsmError {
-    /// The first faulty line, counted from 1, with its least code, from 1 to 9.
-    Fault { line: u32, code: u8 },
+    /// The first faulty line, counted from 1, with its least code.
+    Fault { line: u32, code: Code },
+    /// Memory ran out.
     NoMemory,
+}
+
+impl fmt::Display for AsmError {
+    fn fmt<W: fmt::Write>(&self, f: &mut fmt::Formatter<W>) -> fmt::Result {
+        match self {
+            AsmError::Fault { line, code } => {
+                let number = *code as u8;
+                write!(f, "line {line} is at fault (code {number})")
+            }
+            AsmError::NoMemory => f.write_str("out of memory"),
+        }
+    }
 }
 
 impl From<AllocError> for AsmError {
     ghost from_gives = { λ _ e. e ≡ NoMemory };
 
     fn from(_e: AllocError) -> AsmError {
-        AsmError::NoMemory
-    }
-}
-
-impl<T: Drop> From<AllocFailed<T>> for AsmError {
-    ghost from_gives = { λ _ e. e ≡ NoMemory };
-
-    fn from(_e: AllocFailed<T>) -> AsmError {
         AsmError::NoMemory
     }
 }

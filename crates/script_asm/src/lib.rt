@@ -12,7 +12,7 @@ mod printing;
 mod reading;
 mod word;
 
-pub use fault::AsmError;
+pub use fault::{AsmError, Code};
 pub use laws::{printed_again, spelling_laws};
 pub use printing::print;
 pub use reading::{assemble, read_lines};

@@ -79,7 +79,8 @@ impl<'a, 'b> Model for Names<'a, 'b> {
 
     ghost view = { λ s. spec.words_in (views s.lines.now) };
 
-    ghost invariant = { λ s. (s.count ≡ spec.instructions (spec.words_in (views s.lines.now))) × ((w : List ℕ) → spec.names_place w ≡ true → place_in s.places w ≡ spec.first_named (spec.words_in (views s.lines.now)) w 0 0) };
+    ghost invariant = { λ s. (s.count ≡ spec.instructions (spec.words_in (views s.lines.now)))
+        × ((w : List ℕ) → spec.names_place w ≡ true → place_in s.places w ≡ spec.first_named (spec.words_in (views s.lines.now)) w 0 0) };
 }
 
 impl<'a, 'b> Names<'a, 'b> {

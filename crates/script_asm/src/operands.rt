@@ -12,6 +12,9 @@ use crate::op::{Kind, Op, instr_of, kinds};
 use crate::word::{begins_at, immediate_of, register_of, spelled, up_to};
 use script_lang::Instr;
 
+/// The most instructions of a script.
+const MAX_INSTRUCTIONS: usize = 256;
+
 fn number_or(number: Option<u64>, code: Code) -> Result<u64, Code>
     ensures { result ≡ spec.number_or number code }
 {
@@ -108,7 +111,7 @@ fn operand_fault(names: &Names, at: usize, kinds: &[Kind], words: &[&[u8]]) -> R
     if has_code(names, Code::Nameless, kinds, words) {
         return Err(Code::Nameless);
     }
-    if at >= 256 {
+    if at >= MAX_INSTRUCTIONS {
         return Err(Code::Long);
     }
     if has_code(names, Code::Past, kinds, words) {

@@ -10,6 +10,7 @@ ghost use Rattle.script_asm.specs.ScriptText as spec;
 ghost use Rattle.script_asm.specs.Spelling.{Spells};
 
 use crate::op::{Kind, Op, kinds, op_name};
+use itoa::Buffer;
 use script_lang::{Instr, Program};
 use std::alloc::{AllocError, Global};
 
@@ -112,33 +113,29 @@ fn values_of(instr: &Instr) -> [u64; 5]
     }
 }
 
-fn push_number(alloc: Global, out: &mut String, number: u64) -> Result<(), AllocError>
+/// Writes the number in decimal digits.
+fn push_number(out: &mut String, number: u64) -> Result<(), AllocError>
     ensures { OnOk result (string_bytes out.new ≡ string_bytes out.old ++ decimal number) }
 {
-    let digits = format!(in alloc; "{number}")?;
-    out.push_str(digits.as_str())
+    let mut digits = Buffer::new();
+    out.push_str(digits.format(number))
 }
 
 /// Writes an operand with a blank in front.
 #[tactic(auto, using(crate::proofs::Pieces::pieces))]
-fn push_operand(alloc: Global, out: &mut String, kind: Kind, number: u64) -> Result<(), AllocError>
+fn push_operand(out: &mut String, kind: Kind, number: u64) -> Result<(), AllocError>
     ensures { OnOk result (string_bytes out.new ≡ string_bytes out.old ++ 32 ∷ item.item_text (item.value kind number)) }
 {
     match kind {
         Kind::Register => out.push_str(" r")?,
         Kind::Immediate | Kind::Target | Kind::Index => out.push_str(" ")?,
     }
-    push_number(alloc, out, number)
+    push_number(out, number)
 }
 
 /// Writes the operands, each with a blank in front.
 #[tactic(auto, using(crate::proofs::Pieces::pieces))]
-fn push_operands(
-    alloc: Global,
-    out: &mut String,
-    kinds: &[Kind],
-    numbers: &[u64],
-) -> Result<(), AllocError>
+fn push_operands(out: &mut String, kinds: &[Kind], numbers: &[u64]) -> Result<(), AllocError>
     ensures { OnOk result (string_bytes out.new ≡ string_bytes out.old ++ spec.after_blanks (map item.item_text (item.operand_items kinds.now numbers.now))) }
 {
     let [kind, kinds @ ..] = kinds else {
@@ -147,19 +144,19 @@ fn push_operands(
     let [number, numbers @ ..] = numbers else {
         return Ok(());
     };
-    push_operand(alloc, out, *kind, *number)?;
-    push_operands(alloc, out, kinds, numbers)
+    push_operand(out, *kind, *number)?;
+    push_operands(out, kinds, numbers)
 }
 
 /// Writes the line of an instruction.
 #[tactic(auto, using(crate::proofs::Pieces::pieces))]
-fn push_instr(alloc: Global, out: &mut String, instr: &Instr) -> Result<(), AllocError>
+fn push_instr(out: &mut String, instr: &Instr) -> Result<(), AllocError>
     ensures line { OnOk result (string_bytes out.new ≡ string_bytes out.old ++ (spaced (item.instr_words instr.now) ++ 10 ∷ [])) }
     ensures fits { OnOk result (item.Fits instr.now) }
 {
     let op = op_for(instr);
     out.push_str(op_name(op))?;
-    push_operands(alloc, out, kinds(op), &values_of(instr))?;
+    push_operands(out, kinds(op), &values_of(instr))?;
     out.push_str("\n")?;
     Ok(())
 }
@@ -172,7 +169,7 @@ fn print_list(alloc: Global, program: &[Instr]) -> Result<String, AllocError>
 {
     let mut out = String::new(alloc);
     for instr in program {
-        push_instr(alloc, &mut out, instr)?;
+        push_instr(&mut out, instr)?;
     }
     Ok(out)
 }

@@ -41,10 +41,7 @@ fn read_by(alloc: Global, names: &Names, lines: &[&[u8]]) -> Result<Draft, AsmEr
         match draft.line(alloc, names, line) {
             Ok(()) => number += 1,
             Err(Refusal::Code(code)) => {
-                return Err(AsmError::Fault {
-                    line: number,
-                    code: code as u8,
-                });
+                return Err(AsmError::Fault { line: number, code });
             }
             Err(Refusal::Memory) => return Err(AsmError::NoMemory),
         }
@@ -52,7 +49,7 @@ fn read_by(alloc: Global, names: &Names, lines: &[&[u8]]) -> Result<Draft, AsmEr
     if !has_good_end(draft.program.as_slice()) {
         return Err(AsmError::Fault {
             line: number,
-            code: Code::End as u8,
+            code: Code::End,
         });
     }
     Ok(draft)

@@ -4,8 +4,6 @@
 mod instr;
 mod operand;
 mod program;
-#[cfg(test)]
-mod tests;
 
 pub use instr::Instr;
 pub use operand::{Index, Reg};

@@ -69,7 +69,7 @@ impl MakeKnown {
     ghost use Rattle.tree_gates.specs.MakingKnown.{make_known_by, act_of, doing_of, make_known_shows, learnt, FoundBy};
 
     /// Begins it. `full` says that the caller's known table has no empty place.
-    #[tactic(auto, using(crate::proofs::Begun::usable_known, crate::proofs::Begun::usable_within))]
+    #[tactic(auto, using(policy::proofs::Passed::usable_known, crate::proofs::Begun::usable_within))]
     pub fn start(
         who: &Caller,
         known: Option<&Known>,
@@ -93,7 +93,7 @@ impl MakeKnown {
     }
 
     /// Begins it with a known segment that may be used.
-    #[tactic(auto, using(crate::proofs::Begun::make_known_entry, crate::proofs::Begun::make_known_mode))]
+    #[tactic(auto, using(policy::proofs::Passed::make_known_entry, policy::proofs::Passed::make_known_mode))]
     fn begun(who: &Caller, known: &Known, entry: u64, mode: u64, full: bool) -> MakeKnown
         requires who { who.now.class < 16 }
         requires known { IsKnown known.now }

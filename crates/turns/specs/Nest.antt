@@ -9,6 +9,8 @@ use Rattle.turns.specs.declared.turn.TurnPart.TheVariants as T
 use Rattle.turns.specs.declared.turn.TurnStep.TheVariants as TS
 use Rattle.turns.specs.declared.nested.NestedPart.{NestedPart}
 use Rattle.turns.specs.declared.nested.NestedPart.TheVariants.{Outer, Inner, Leaving}
+use Rattle.turns.specs.declared.nested.Held.{Held}
+use Rattle.turns.specs.declared.nested.Held.TheVariants as H
 use Rattle.turns.specs.declared.nested.NestedStep.{NestedStep}
 use Rattle.turns.specs.declared.nested.NestedStep.TheVariants as NS
 
@@ -25,6 +27,16 @@ in_outer _ = false
 abbrev pub in_inner : NestedPart → Bool
 in_inner (Inner t p) = turn_is_held p
 in_inner _ = false
+
+-- whether it is the class's turn whose body is going on
+abbrev pub is_class : Held → Bool
+is_class H.Class = true
+is_class _ = false
+
+-- whether it is the segment's
+abbrev pub is_segment : Held → Bool
+is_segment H.Segment = true
+is_segment _ = false
 
 -- the segment's turn is begun
 abbrev pub nested_entered : NestedPart → NestedPart

@@ -18,6 +18,17 @@ pub enum NestedPart {
     Leaving(u64),
 }
 
+/// Whose body is going on.
+#[derive(Clone, Copy, Debug, PartialEq, Eq)]
+pub enum Held {
+    /// Neither turn's: the operations are those of the turns.
+    Neither,
+    /// That of the class's turn.
+    Class,
+    /// That of the segment's turn.
+    Segment,
+}
+
 /// What an answer tells the turns.
 #[derive(Clone, Copy, Debug, PartialEq, Eq)]
 pub enum NestedStep {
@@ -50,7 +61,7 @@ impl NestedTurn {
     ghost use Rattle.std.specs.Prelude.{◌≡◌, ◌||◌, true, false};
     ghost use Rattle.words_layout.specs.Named.{op_at};
     ghost use Rattle.turns.specs.Classes.{NamesOnly};
-    ghost use Rattle.turns.specs.Nest.{nested_first, in_outer, in_inner, nested_entered, nested_closed, nested_asks, NestedRow};
+    ghost use Rattle.turns.specs.Nest.{nested_first, in_outer, in_inner, is_class, is_segment, nested_entered, nested_closed, nested_asks, NestedRow};
 
     /// The turns of a class that are at the first part.
     pub fn new(class: u8) -> NestedTurn
@@ -68,18 +79,15 @@ impl NestedTurn {
         }
     }
 
-    /// The same, where it is known which segment's turn is to stand in the class's.
-    pub fn round(class: u8, seg: SegId) -> NestedTurn
-        requires class { class < 16 }
-        requires seg { IsIdentity seg }
-        ensures class { result.class ≡ class }
-        ensures seg { result.seg ≡ seg }
-        ensures part { result.part ≡ nested_first }
+    /// Whose body is going on, so that its operations are the caller's.
+    pub fn held(&self) -> Held
+        ensures class { in_outer self.now.part ≡ is_class result }
+        ensures segment { in_inner self.now.part ≡ is_segment result }
     {
-        NestedTurn {
-            class,
-            seg,
-            part: NestedPart::Outer(TurnPart::First),
+        match self.part {
+            NestedPart::Outer(TurnPart::Held(_)) => Held::Class,
+            NestedPart::Inner(_, TurnPart::Held(_)) => Held::Segment,
+            _ => Held::Neither,
         }
     }
 

@@ -75,16 +75,6 @@ impl Turn {
         self.part
     }
 
-    /// Whether the operations are the caller's.
-    pub fn is_held(&self) -> bool
-        ensures { result ≡ turn_is_held self.now.part }
-    {
-        match self.part {
-            TurnPart::Held(_) => true,
-            _ => false,
-        }
-    }
-
     /// The operation of the part.
     pub fn next_op(&self) -> Op
         requires { turn_is_held self.now.part ≡ false }

@@ -1,3 +1,4 @@
+pub mod BigEndian
 pub mod Loops
 pub mod Taking
 pub mod HeadLaws

@@ -4,19 +4,20 @@ ghost use Rattle.std.specs.Prelude.{◌≡◌, length};
 ghost use Rattle.volume_image.specs.declared.fault.Stop.TheVariants.{Fault, Memory};
 
 use std::alloc::{AllocError, AllocFailed};
+use std::fmt;
 
 /// What is wrong with a field.
 #[derive(Clone, Copy, Debug, PartialEq, Eq)]
 pub enum Code {
     /// The bytes end before the field does.
     Short = 1,
-    /// It isn't the word that every image begins with.
+    /// The first six bytes aren't `GEMVOL`.
     Magic = 2,
-    /// It is no format.
+    /// A format other than 1 and 2.
     Format = 3,
-    /// It isn't 0.
+    /// A byte that must be 0 isn't.
     Zero = 4,
-    /// It isn't the number of the table's classes, or more than the format has room for.
+    /// A number of classes that isn't the table's, or is more than the format has room for.
     Classes = 5,
     /// A level above 15.
     Level = 6,
@@ -30,7 +31,7 @@ pub enum Code {
     Mentor = 10,
     /// A class that isn't at or above that of the mentor.
     Class = 11,
-    /// Something follows after the last record.
+    /// More bytes follow the last record.
     Behind = 12,
     /// Another name than that of the class, or of another length.
     Name = 13,
@@ -41,6 +42,7 @@ pub enum Code {
 pub enum Stop {
     /// A field is at fault, and so many bytes are left from its first one on.
     Fault { left: usize, code: Code },
+    /// Memory ran out.
     Memory,
 }
 
@@ -79,7 +81,19 @@ impl<T: Drop> From<AllocFailed<T>> for Stop {
 /// Why bytes are read as no volume.
 #[derive(Clone, Copy, Debug, PartialEq, Eq)]
 pub enum VolumeError {
-    /// The first field at fault: the place of its first byte, and its code.
+    /// The first field at fault: the offset of its first byte, and its code, from 1 to 13.
     Fault { offset: u32, code: u8 },
+    /// Memory ran out.
     NoMemory,
+}
+
+impl fmt::Display for VolumeError {
+    fn fmt<W: fmt::Write>(&self, f: &mut fmt::Formatter<W>) -> fmt::Result {
+        match self {
+            VolumeError::Fault { offset, code } => {
+                write!(f, "the image is at fault at offset {offset} (code {code})")
+            }
+            VolumeError::NoMemory => f.write_str("out of memory"),
+        }
+    }
 }

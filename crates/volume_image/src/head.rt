@@ -89,7 +89,7 @@ fn name_of<'a>(name: &[u8], bytes: &'a [u8]) -> Result<&'a [u8], Stop>
     ensures { Gives (λ x. x.now) result (name_at name.now bytes.now) }
 {
     let (number, after) = byte_of(bytes)?;
-    if number as usize != name.len() {
+    if usize::from(number) != name.len() {
         return Err(fault(bytes, Code::Name));
     }
     let (text, rest) = front_of(after, name.len())?;

@@ -58,7 +58,7 @@ fn largest(table: &ClassTable) -> usize
     ensures { result ≡ largest table.now }
 {
     table.table_law();
-    let classes = table.count() as usize;
+    let classes = usize::from(table.count());
     11 + classes_size(table) + 523 * (64 * classes)
 }
 

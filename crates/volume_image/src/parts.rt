@@ -6,6 +6,7 @@ ghost use Rattle.std.specs.Int.{w16, w64};
 ghost use Rattle.volume_image.specs.Steps.{Gives, byte_at, front_at, number_at, identity_at};
 
 use crate::fault::{SHORT, Stop};
+use byteorder::{BigEndian, ByteOrder};
 use words_layout::SegId;
 
 /// Whether both are the same bytes.
@@ -35,7 +36,8 @@ pub fn front_of(bytes: &[u8], count: usize) -> Result<(&[u8], &[u8]), Stop>
     Ok(bytes.split_at(count))
 }
 
-/// The next two bytes, as a number.
+/// The number in the next two bytes, the high byte first, and what follows it.
+#[tactic(auto, using(crate::proofs::BigEndian::numbers))]
 pub fn short_number_of(bytes: &[u8]) -> Result<(u16, &[u8]), Stop>
     ensures { Gives (λ x. (x.0, x.1.now)) result (number_at w16 bytes.now) }
 {
@@ -43,10 +45,11 @@ pub fn short_number_of(bytes: &[u8]) -> Result<(u16, &[u8]), Stop>
         return Err(SHORT);
     }
     let (front, rest) = bytes.split_at(2);
-    Ok((u16::from_be_bytes([front[0], front[1]]), rest))
+    Ok((BigEndian::read_u16(front), rest))
 }
 
-/// The next eight bytes, as a number.
+/// The number in the next eight bytes, the high byte first, and what follows it.
+#[tactic(auto, using(crate::proofs::BigEndian::numbers))]
 pub fn word_of(bytes: &[u8]) -> Result<(u64, &[u8]), Stop>
     ensures { Gives (λ x. (x.0, x.1.now)) result (number_at w64 bytes.now) }
 {
@@ -54,13 +57,10 @@ pub fn word_of(bytes: &[u8]) -> Result<(u64, &[u8]), Stop>
         return Err(SHORT);
     }
     let (front, rest) = bytes.split_at(8);
-    let word = u64::from_be_bytes([
-        front[0], front[1], front[2], front[3], front[4], front[5], front[6], front[7],
-    ]);
-    Ok((word, rest))
+    Ok((BigEndian::read_u64(front), rest))
 }
 
-/// The next two bytes, as an identity.
+/// The identity in the next two bytes, and what follows it.
 pub fn identity_of(bytes: &[u8]) -> Result<(SegId, &[u8]), Stop>
     ensures { Gives (λ x. (x.0, x.1.now)) result (identity_at bytes.now) }
 {

@@ -12,6 +12,7 @@ ghost use Rattle.volume_image.specs.Puts.{Puts};
 
 use crate::head::MAGIC;
 use crate::records::{SegRecord, Volume};
+use byteorder::{BigEndian, ByteOrder};
 use labels::{ClassTable, Label};
 use rings::Brackets;
 use std::alloc::{AllocError, Global};
@@ -25,10 +26,13 @@ fn put(out: &mut Vec<u8>, bytes: &[u8]) -> Result<(), AllocError>
 }
 
 /// Adds a word, its high byte first.
+#[tactic(auto, using(crate::proofs::BigEndian::numbers))]
 fn put_word(out: &mut Vec<u8>, word: u64) -> Result<(), AllocError>
     ensures { Puts out.old out.new result (to_be_bytes w64 word) }
 {
-    put(out, &word.to_be_bytes())
+    let mut bytes = [0; 8];
+    BigEndian::write_u64(&mut bytes, word);
+    put(out, &bytes)
 }
 
 /// Adds the words.
@@ -153,10 +157,13 @@ fn put_start(out: &mut Vec<u8>, table: &ClassTable) -> Result<(), AllocError>
 }
 
 /// Adds the number of records, its high byte first.
+#[tactic(auto, using(crate::proofs::BigEndian::numbers))]
 fn put_count(out: &mut Vec<u8>, count: u16) -> Result<(), AllocError>
     ensures { Puts out.old out.new result (to_be_bytes w16 count) }
 {
-    put(out, &count.to_be_bytes())
+    let mut bytes = [0; 2];
+    BigEndian::write_u16(&mut bytes, count);
+    put(out, &bytes)
 }
 
 /// Adds all that stands before the number of records.

@@ -25,6 +25,3 @@ pub use op::{Event, Op, WordPort};
 pub use plain::PlainWords;
 pub use recording::RecordingWords;
 pub use segment::{SegId, seg_number};
-
-#[cfg(test)]
-mod tests;

@@ -140,7 +140,7 @@ fn scripts_and_faults(rt: HostRuntime) -> Result<(), Fail> {
 /// The line and code of the fault.
 fn fault_of(answer: Result<Program, AsmError>) -> Option<(u32, u8)> {
     match answer {
-        Err(AsmError::Fault { line, code }) => Some((line, code)),
+        Err(AsmError::Fault { line, code }) => Some((line, code as u8)),
         _ => None,
     }
 }

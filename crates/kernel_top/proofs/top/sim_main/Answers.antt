@@ -1,35 +1,48 @@
-use Rattle.kernel_top.proofs.Answers.{headline, report, ended, volumes, shown, cause, prefix, silence, unread, others, usage, as_asked}
+use Rattle.std.proofs.Common.{refl, inl, ap, Err}
+use Rattle.text_lines.specs.Lines.{views}
+use Rattle.command_words.specs.declared.asked.Plan.TheVariants.{Sim, Show, View, Large, Audit, Guard}
+use Rattle.kernel_top.specs.Answer.{NeedsEither}
+use Rattle.kernel_top.proofs.Answers.{usage, sim_answered, faulty, one_plan, no_plan, as_asked}
 use Rattle.kernel_top.proofs.top.sim_main.Goals as goal
 
-pub returns-in-Some-clause-headline : goal.returns-in-Some-clause-headline
-returns-in-Some-clause-headline g c = λ h. headline _ _ _ (as_asked _ _ _ _ _ _ h c.in-Some.ensures c.carry_out.ensures)
+pub returns-in-Ok-clause-usage : goal.returns-in-Ok-clause-usage
+returns-in-Ok-clause-usage g c = usage NeedsEither (views c.args.words.now) _ _ c.in-Ok.plan ((c.in-Ok.ensures.accepts c.in-Ok.plan).0 refl) (λ q h. one_plan c.in-Ok.plan q ((c.in-Ok.ensures.accepts q).1 h)) _ (sim_answered c.in-Ok.plan _ _ _ c.carry_out.ensures.shows)
 
-pub returns-in-Some-clause-report : goal.returns-in-Some-clause-report
-returns-in-Some-clause-report g c = λ h. report _ _ _ (as_asked _ _ _ _ _ _ h c.in-Some.ensures c.carry_out.ensures)
+pub returns-in-Ok-clause-headline : goal.returns-in-Ok-clause-headline
+returns-in-Ok-clause-headline g c = λ h. as_asked c.in-Ok.plan Sim _ _ _ (one_plan c.in-Ok.plan Sim ((c.in-Ok.ensures.accepts Sim).1 h)) c.carry_out.ensures.shows
 
-pub returns-in-Some-clause-ended : goal.returns-in-Some-clause-ended
-returns-in-Some-clause-ended g c = λ h. ended _ _ _ (as_asked _ _ _ _ _ _ h c.in-Some.ensures c.carry_out.ensures)
+pub returns-in-Ok-clause-show : goal.returns-in-Ok-clause-show
+returns-in-Ok-clause-show g c = λ h. as_asked c.in-Ok.plan Show _ _ _ (one_plan c.in-Ok.plan Show ((c.in-Ok.ensures.accepts Show).1 h)) c.carry_out.ensures.shows
 
-pub returns-in-Some-clause-volumes : goal.returns-in-Some-clause-volumes
-returns-in-Some-clause-volumes g c = λ h. volumes _ _ _ (as_asked _ _ _ _ _ _ h c.in-Some.ensures c.carry_out.ensures)
+pub returns-in-Ok-clause-view : goal.returns-in-Ok-clause-view
+returns-in-Ok-clause-view g c = λ n h. as_asked c.in-Ok.plan (View n) _ _ _ (one_plan c.in-Ok.plan (View n) ((c.in-Ok.ensures.accepts (View n)).1 h)) c.carry_out.ensures.shows
 
-pub returns-in-Some-clause-shown : goal.returns-in-Some-clause-shown
-returns-in-Some-clause-shown g c = λ h. shown _ _ _ (as_asked _ _ _ _ _ _ h c.in-Some.ensures c.carry_out.ensures)
+pub returns-in-Ok-clause-large : goal.returns-in-Ok-clause-large
+returns-in-Ok-clause-large g c = λ n h. as_asked c.in-Ok.plan (Large n) _ _ _ (one_plan c.in-Ok.plan (Large n) ((c.in-Ok.ensures.accepts (Large n)).1 h)) c.carry_out.ensures.shows
 
-pub returns-in-Some-clause-usage : goal.returns-in-Some-clause-usage
-returns-in-Some-clause-usage g c = usage _ _ _ _ _ c.in-Some.ensures c.carry_out.ensures
+pub returns-in-Ok-clause-audit : goal.returns-in-Ok-clause-audit
+returns-in-Ok-clause-audit g c = λ n h. as_asked c.in-Ok.plan (Audit n) _ _ _ (one_plan c.in-Ok.plan (Audit n) ((c.in-Ok.ensures.accepts (Audit n)).1 h)) c.carry_out.ensures.shows
 
-pub returns-in-Some-clause-cause : goal.returns-in-Some-clause-cause
-returns-in-Some-clause-cause g c = λ d h. cause _ _ _ _ (as_asked _ d _ _ _ _ h c.in-Some.ensures c.carry_out.ensures)
+pub returns-in-Err-clause-usage : goal.returns-in-Err-clause-usage
+returns-in-Err-clause-usage g c = faulty NeedsEither (views c.args.words.now) _ _ c.fault_kind.result ((c.in-Err.ensures.refuses c.fault_kind.result).0 (ap Err c.fault_kind.ensures)) (λ q h. no_plan _ q ((c.in-Err.ensures.accepts q).1 h)) (λ p. refl)
 
-pub returns-in-Some-clause-prefix : goal.returns-in-Some-clause-prefix
-returns-in-Some-clause-prefix g c = λ d h. prefix _ _ _ _ (as_asked _ d _ _ _ _ h c.in-Some.ensures c.carry_out.ensures)
+pub returns-in-Err-clause-headline : goal.returns-in-Err-clause-headline
+returns-in-Err-clause-headline g c = λ h. absurd (no_plan _ Sim ((c.in-Err.ensures.accepts Sim).1 h))
 
-pub returns-in-Some-clause-silence : goal.returns-in-Some-clause-silence
-returns-in-Some-clause-silence g c = silence _ _ _ _ c.carry_out.ensures
+pub returns-in-Err-clause-show : goal.returns-in-Err-clause-show
+returns-in-Err-clause-show g c = λ h. absurd (no_plan _ Show ((c.in-Err.ensures.accepts Show).1 h))
 
-pub returns-in-Some-clause-unread : goal.returns-in-Some-clause-unread
-returns-in-Some-clause-unread g c = λ d h. unread _ _ _ _ (as_asked _ d _ _ _ _ h c.in-Some.ensures c.carry_out.ensures)
+pub returns-in-Err-clause-view : goal.returns-in-Err-clause-view
+returns-in-Err-clause-view g c = λ n h. absurd (no_plan _ (View n) ((c.in-Err.ensures.accepts (View n)).1 h))
 
-pub returns-in-Some-clause-other_ports : goal.returns-in-Some-clause-other_ports
-returns-in-Some-clause-other_ports g c = λ d h. others _ _ _ _ (as_asked _ d _ _ _ _ h c.in-Some.ensures c.carry_out.ensures)
+pub returns-in-Err-clause-large : goal.returns-in-Err-clause-large
+returns-in-Err-clause-large g c = λ n h. absurd (no_plan _ (Large n) ((c.in-Err.ensures.accepts (Large n)).1 h))
+
+pub returns-in-Err-clause-audit : goal.returns-in-Err-clause-audit
+returns-in-Err-clause-audit g c = λ n h. absurd (no_plan _ (Audit n) ((c.in-Err.ensures.accepts (Audit n)).1 h))
+
+pub returns-in-Ok-clause-guard : goal.returns-in-Ok-clause-guard
+returns-in-Ok-clause-guard g c = λ h. as_asked c.in-Ok.plan Guard _ _ _ (one_plan c.in-Ok.plan Guard ((c.in-Ok.ensures.accepts Guard).1 h)) c.carry_out.ensures.shows
+
+pub returns-in-Err-clause-guard : goal.returns-in-Err-clause-guard
+returns-in-Err-clause-guard g c = λ h. absurd (no_plan _ Guard ((c.in-Err.ensures.accepts Guard).1 h))

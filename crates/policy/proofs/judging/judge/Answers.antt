@@ -1,4 +1,4 @@
-use Rattle.std.proofs.Common.{[], Some, None, List, Bool, ◌≡◌, ◌∙◌, sym}
+use Rattle.std.proofs.Common.{[], None, List, Bool, ◌≡◌, ◌∙◌, sym}
 use Rattle.std.specs.Prelude.{if◌then◌else◌}
 use Rattle.policy.specs.Known.{observes, modifies}
 use Rattle.policy.specs.Verdict.{first_broken, observe_tests, modify_tests}

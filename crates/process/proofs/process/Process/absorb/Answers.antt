@@ -1,37 +1,53 @@
-use Rattle.std.proofs.Common.{◌≡◌, sym, subst, ap}
+use Rattle.std.proofs.Common.{◌≡◌, sym, subst}
+use Rattle.class_model.specs.Plan.{plan}
+use Rattle.class_model.specs.Next.{IsNext, NextPassed}
 use Rattle.process.specs.Running.{Absorbed, absorb}
-use Rattle.process.specs.Standing.{Standing, Absorbs, doing_in, running_of}
-use Rattle.process.proofs.Stands.{sound_by, stands_low, stands_after, stands_given, begun_held}
+use Rattle.process.specs.Standing.{Standing, StandingFits, Absorbs, IsHeld, running_of}
+use Rattle.process.proofs.Stands.{sound_by, stands_can, stands_low, stands_after, stands_given, begun_absorbs}
 use Rattle.process.proofs.process.Process.absorb.Goals as goal
+
+pub next-next-requires : goal.next-next-requires
+next-next-requires c = stands_can c.args.shared.now _ (subst (StandingFits c.args.shared.now) (sym c.self.view_is) c.requires.fits)
+
+pub absorb_first-requires-clause-sound : goal.absorb_first-requires-clause-sound
+absorb_first-requires-clause-sound c = sound_by c.args.shared.now c.table.result.now c.table.ensures c.table_law.ensures c.shared_law.ensures
+
+pub absorb_first-requires-clause-next : goal.absorb_first-requires-clause-next
+absorb_first-requires-clause-next c =
+    let s = c.args.shared.now in
+    subst (λ (v : Standing). IsNext v.class v.process (plan s v.class v.process) c.next-next.result) c.self.view_is c.next-next.ensures.next
+
+pub absorb_first-requires-clause-passed : goal.absorb_first-requires-clause-passed
+absorb_first-requires-clause-passed c =
+    subst (λ (v : Standing). NextPassed c.args.shared.now.table v.process c.next-next.result) c.self.view_is c.next-next.ensures.passed
 
 pub absorb_next-requires : goal.absorb_next-requires
 absorb_next-requires c =
     let s = c.args.shared.now in
     let good = sound_by s c.table.result.now c.table.ensures c.table_law.ensures c.shared_law.ensures in
-    record { fits = c.requires.fits; place = stands_low s c.args.self.now c.requires.fits good; table = c.requires.fits.fits.class }
+    record { fits = c.requires.fits; begun = c.is_fresh.ensures.begun c.if-is_fresh.false; place = stands_low s c.args.self.now c.requires.fits good; table = c.requires.fits.fits.class }
 
-pub returns-in-Fresh-clause-given : goal.returns-in-Fresh-clause-given
-returns-in-Fresh-clause-given c =
+pub returns-then-is_fresh-clause-given : goal.returns-then-is_fresh-clause-given
+returns-then-is_fresh-clause-given c =
     let s = c.args.shared.now in
     let good = sound_by s c.table.result.now c.table.ensures c.table_law.ensures c.shared_law.ensures in
     stands_given s c.args.self.now c.requires.fits good c.args.free c.args.answer c.absorb_first.new.self c.absorb_first.result c.absorb_first.ensures
 
-pub returns-in-Fresh-clause-fits : goal.returns-in-Fresh-clause-fits
-returns-in-Fresh-clause-fits c =
+pub returns-then-is_fresh-clause-fits : goal.returns-then-is_fresh-clause-fits
+returns-then-is_fresh-clause-fits c =
     let s = c.args.shared.now in
     let good = sound_by s c.table.result.now c.table.ensures c.table_law.ensures c.shared_law.ensures in
     stands_after s c.args.self.now c.requires.fits good c.args.free c.args.answer c.absorb_first.new.self c.absorb_first.result c.absorb_first.ensures
 
-pub returns-in_default : goal.returns-in_default
-returns-in_default c =
+pub returns-else-is_fresh : goal.returns-else-is_fresh
+returns-else-is_fresh c =
     let s = c.args.shared.now in
     let v = c.args.self.now in
     let good = sound_by s c.table.result.now c.table.ensures c.table_law.ensures c.shared_law.ensures in
-    let begun = begun_held c.self.inside.class s.table c.self.inside.doing c.self.invariant c.in_default.not-Fresh in
-    let same : doing_in s.table c.self.inside.doing ≡ doing_in s.table v.doing = ap (λ (x : Standing). doing_in s.table x.doing) c.self.view_is in
-    let says = subst Rattle.process.proofs.Stands.IsBegun same begun in
+    let held = subst (λ (w : Standing). IsHeld w.class w.doing) c.self.view_is c.self.invariant in
     let a : Absorbs s v c.absorb_next.new.self (absorb s v.class (running_of s v) c.args.free c.args.answer) c.absorb_next.result =
-    subst (λ (x : Absorbed). Absorbs s v c.absorb_next.new.self x c.absorb_next.result) (sym (says.absorbs s v.class v.process c.args.free c.args.answer)) c.absorb_next.ensures in
+    subst (λ (x : Absorbed). Absorbs s v c.absorb_next.new.self x c.absorb_next.result)
+    (sym (begun_absorbs s v held (c.is_fresh.ensures.begun c.if-is_fresh.false) c.args.free c.args.answer)) c.absorb_next.ensures in
     record {
       running = a.running;
       class = a.class;

@@ -1,0 +1,4 @@
+pub mod Instructions
+pub mod Trail
+pub mod Lines
+pub mod Dues

@@ -1,0 +1,4 @@
+pub mod StatusNumber
+pub mod Input
+pub mod Answer
+pub mod Reading

@@ -1,0 +1,5 @@
+pub mod Living
+pub mod Pushing
+pub mod Reports
+pub mod Ran
+pub mod Shown

@@ -1,0 +1,4 @@
+pub mod Images
+pub mod Reading
+pub mod Saves
+pub mod Restores

@@ -1,0 +1,4 @@
+pub mod Ranges
+pub mod Popping
+pub mod Beginning
+pub mod Ordered

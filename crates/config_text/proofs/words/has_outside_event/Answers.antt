@@ -1,0 +1,11 @@
+use Rattle.std.proofs.Common.{◌∙◌, sym, rules, tests}
+use Rattle.std.proofs.lemmas.Iterator.{YieldsList-from_slice}
+use Rattle.std.proofs.lemmas.Iterator.Search.{any_from_yields_List}
+use Rattle.config_text.specs.Rules.{is_outside_event}
+use Rattle.config_text.proofs.WordTests.{any_word}
+use Rattle.config_text.proofs.words.has_outside_event.Goals as goal
+
+pub returns : goal.returns
+returns c =
+    any_from_yields_List (λ w. is_outside_event c.args.processors c.args.classes w.now) _ _ _ c.any.ensures.ran (YieldsList-from_slice c.args.words.now cc) (λ x b q k. search (rules, tests))
+    ∙ sym (any_word (is_outside_event c.args.processors c.args.classes) c.args.words.now)

@@ -1,0 +1,13 @@
+pub mod Shown
+pub mod Effects
+pub mod Tallies
+pub mod Looks
+pub mod LookSteps
+pub mod Steps
+pub mod Opening
+pub mod History
+pub mod Once
+pub mod StepsMade
+pub mod Fetches
+pub mod Between
+pub mod Unbounded

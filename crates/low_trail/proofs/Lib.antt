@@ -1,0 +1,3 @@
+pub mod LowEvents
+pub mod Lines
+pub mod Ranges

@@ -1,0 +1,16 @@
+pub mod Protocol
+pub mod Registers
+pub mod Finds
+pub mod Shows
+pub mod Goes
+pub mod Told
+pub mod PosterSteps
+pub mod CollectorSteps
+pub mod Slots
+pub mod Steps
+pub mod Pushes
+pub mod Sizes
+pub mod Opens
+pub mod Prefix
+pub mod Runs
+pub mod ByTicket

@@ -1,0 +1,3 @@
+pub mod Mail
+pub mod Protocol
+pub mod Places

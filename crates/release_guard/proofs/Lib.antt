@@ -1,0 +1,12 @@
+pub mod Stepping
+pub mod Faults
+pub mod Lines
+pub mod Left
+pub mod Whole
+pub mod OrderLaws
+pub mod Shown
+pub mod Releasing
+pub mod Members
+pub mod Causes
+pub mod Kept
+pub mod Flow

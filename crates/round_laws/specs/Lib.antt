@@ -1,0 +1,4 @@
+pub mod Turns
+pub mod Logs
+pub mod Live
+pub mod Rounds

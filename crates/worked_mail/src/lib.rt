@@ -1,0 +1,5 @@
+//! Tests alone: worked mail.
+#![tactic(auto)]
+
+#[cfg(test)]
+mod mail;
