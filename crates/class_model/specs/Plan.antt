@@ -52,7 +52,7 @@ of_known p (Some k) tests request = tested p (tests k) (Ask (request k))
 abbrev pub jumped : Process → Bool → ℕ → Process
 jumped p test to = record p { place = if test then to else p.place + 1 }
 
--- a call goes to the begin of the gate's script in the ring of the call
+-- a call goes to the start of the gate's script in the ring of the call
 abbrev pub called : Process → Gate → Option ℕ → Process
 called p gate None = refused p RingCall
 called p gate (Some ring) =

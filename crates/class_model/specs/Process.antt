@@ -44,7 +44,7 @@ root_known class = record {
   rights = if class == 0 then 3 else 1;
 }
 
--- a process at the begin of a script, with r2 = start
+-- a process at the start of a script, with r2 = start
 abbrev pub new_process : ℕ → ℕ → ℕ → ℕ → Process
 new_process class script ring start = record {
   script = script;

@@ -89,7 +89,7 @@ pub enum Shown<'a> {
     Words { at: u8, words: &'a [u64] },
     /// A console line.
     Printed { place: u64, value: u64 },
-    /// One look more, and the tally so far; None where it begins again.
+    /// One look more, and the tally so far; None where it starts again.
     Looked(Option<Tally>),
     /// The last look, and the sum of all.
     Counted(u64),

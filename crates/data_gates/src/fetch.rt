@@ -90,7 +90,7 @@ impl Fetch {
         }
     }
 
-    /// Begins again in place, as `start` does where the private tests pass: it is then the fetch of these words.
+    /// Starts again in place, as `start` does where the private tests pass: it is then the fetch of these words.
     pub fn restart(&mut self, known: &Known, offset: u8, count: u8, pad: u8)
         requires known { IsKnown known.now }
         requires some { 1 ≤ count }

@@ -105,7 +105,7 @@ impl Update {
         }
     }
 
-    /// Begins again in place, as `start` does where the private tests pass: it is then the update of these words by
+    /// Starts again in place, as `start` does where the private tests pass: it is then the update of these words by
     /// a caller of the class.
     pub fn restart(
         &mut self,

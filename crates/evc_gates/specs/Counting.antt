@@ -14,7 +14,7 @@ use Rattle.evc_gates.specs.Count.{read_op, read_shows, advance_op, advance_shows
 abbrev pub classes_of : ℕ → List ℕ
 classes_of bits = filter (λ c. bit_at bits c == 1) (below 16)
 
--- a look goes on to the next one, or begins again where the sum is too little; all else ends
+-- a look goes on to the next one, or starts again where the sum is too little; all else ends
 abbrev pub look_ending : Outcome → Ending
 look_ending (Looked (Some t)) = Goes
 look_ending (Looked None) = Polls
@@ -32,7 +32,7 @@ tally seen sum = record { seen = seen; sum = sum }
 abbrev pub sum_act : Option Rule → List ℕ → Known → (wanted : ℕ) → Tally → Act Outcome
 sum_act refusal classes k wanted t = unless_broken refusal (Once (read_op classes k t) (λ w. shown_at_once (read_shows classes wanted t w)))
 
--- the tally behind what a look showed: it begins again after the last look
+-- the tally behind what a look showed: it starts again after the last look
 abbrev pub tally_shown : Tally → Outcome → Tally
 tally_shown t (Looked (Some u)) = u
 tally_shown t (Refused rule) = t

@@ -5,7 +5,7 @@ use Rattle.loader.specs.declared.loading.LoadError.{LoadError}
 use Rattle.loader.specs.declared.loading.LoadError.TheVariants as error
 use Rattle.loader.specs.Records.{Volumes, Loads, IsLoadFault}
 
--- A machine or want of memory only where no record is at fault, and a fault only where it is that of the first one at fault, with
+-- A machine or no memory only where no record is at fault, and a fault only where it is that of the first one at fault, with
 -- its least code.
 abbrev pub IsRefusedRightly : {M : Type 0} → ConfigText → Volumes → Result M LoadError → Type 0
 IsRefusedRightly k vs (Ok m) = Loads k vs

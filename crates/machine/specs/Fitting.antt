@@ -12,7 +12,7 @@ abbrev pub EmptiesFit : Type 0
 EmptiesFit =
     (s : Shared) (class : ℕ) → class < classes s → ProcessingFits s (record { class = class; slots = replicate 4 None; current = 0; lines = []; room = s.console })
 
--- a process at the begin of a script that is there, at or below its class, fits
+-- a process at the start of a script that is there, at or below its class, fits
 abbrev pub NewProcessesFit : Type 0
 NewProcessesFit =
     (s : Shared) (class script ring start : ℕ) → IsSound s → class < classes s → UsesScript s class script → StandingFits s (new_standing class script ring start)

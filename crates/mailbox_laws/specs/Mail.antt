@@ -21,7 +21,7 @@ abbrev pub posted : SegId → Happened → Option ℕ
 posted u h = if draws u h.deed.asked then option_map (λ (p : Process). reg p 9) (process_at h.before h.who) else None
 
 -- What is posted through u by these effects: r9 of the poster at each Ok ticket of u, in the order of the tickets. The ticket that
--- answers k stands at place k.
+-- returns k stands at place k.
 abbrev pub posts : SegId → List Happened → List ℕ
 posts u run = filter_map (posted u) run
 

@@ -21,7 +21,7 @@ pub data Outcome : Type 0 where
   Learns : Known → Outcome  -- a segment for the known table
   Words : (pad : ℕ) → List ℕ → Outcome  -- words for the pad, from that place on
   Printed : (place value : ℕ) → Outcome  -- a console line
-  Looked : Option Tally → Outcome  -- one look more, and the tally so far; none where it begins again
+  Looked : Option Tally → Outcome  -- one look more, and the tally so far; none where it starts again
   Counted : (sum : ℕ) → Outcome  -- the last look, and the sum of all
 
 -- what an entry shows by a verdict on it

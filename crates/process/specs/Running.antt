@@ -12,7 +12,7 @@ use Rattle.swap_gates.specs.Swap.{swap_in_body, swap_out_body}
 use Rattle.data_gates.specs.Data.{fetch_body, update_body}
 use Rattle.evc_gates.specs.Count.{read_op, read_shows, advance_op, advance_shows, ticket_op, ticket_shows, out_op, out_shows}
 
--- A look of a read goes on to the next one; an await that finds too little begins again.
+-- A look of a read goes on to the next one; an await that finds too little starts again.
 abbrev pub once_ending : Outcome → Ending
 once_ending (Looked (Some tally)) = Goes
 once_ending (Looked None) = Polls

@@ -58,7 +58,7 @@ pub record Standing : Type 0 where
 abbrev pub running_of : Shared → Standing → Running
 running_of s v = record { process = v.process; doing = doing_in s.table v.doing }
 
--- a process at the begin of a script, with r2 = start
+-- a process at the start of a script, with r2 = start
 abbrev pub new_standing : (class script ring start : ℕ) → Standing
 new_standing class script ring start = record { class = class; process = new_process class script ring start; doing = H.Fresh }
 

@@ -29,7 +29,7 @@ use words_layout::{Op, WordPort};
 pub struct Process {
     class: u8,
     /// Whether the last instruction is over. What `doing` then holds is left of it, for the next one of its kind to
-    /// begin again in place.
+    /// start again in place.
     over: bool,
     state: ProcessState,
     doing: Doing,

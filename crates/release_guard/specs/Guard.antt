@@ -85,7 +85,7 @@ pub record IsReleaseFault (k : Order) (v : Volume) (line code : ℕ) : Type 0 wh
   pub line_is : line ≡ here.line
   pub code_is : code ≡ lack_number lack
 
--- what is answered: the volume that the order makes, the first release at fault, or want of memory
+-- what is answered: the volume that the order makes, the first release at fault, or no memory
 abbrev pub AnswersRelease : Order → Volume → Result Volume ReleaseError → Type 0
 AnswersRelease k v (Ok made) = CanRelease k v × (made ≡ guard k v)
 AnswersRelease k v (Err (error.Fault line code)) = IsReleaseFault k v line code

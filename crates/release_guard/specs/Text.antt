@@ -90,7 +90,7 @@ SpellsOne text = (k : Order) × Spells text k
 abbrev pub HasFault : List ℕ → Type 0
 HasFault text = (line : ℕ) × (code : ℕ) × IsFault text line code
 
--- what is answered: the order that the text spells, its first fault, or want of memory
+-- what is answered: the order that the text spells, its first fault, or no memory
 abbrev pub AnswersText : List ℕ → Result Order OrderError → Type 0
 AnswersText text (Ok k) = Spells text k
 AnswersText text (Err (error.Fault at n)) = IsFault text at n

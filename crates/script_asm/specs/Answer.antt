@@ -16,7 +16,7 @@ Says ls program = (p : Place) × IsFaultless (script_rules (words_in ls)) start 
 abbrev pub IsFault : List (List ℕ) → ℕ → ℕ → Type 0
 IsFault ls line number = (c : Code) × (number ≡ code_number c) × IsFirstFault (script_rules (words_in ls)) start ls line c
 
--- what is answered: the program that the lines spell, their first fault, or want of memory
+-- what is answered: the program that the lines spell, their first fault, or no memory
 abbrev pub AnswersScript : List (List ℕ) → Result (List Instr) AsmError → Type 0
 AnswersScript ls (Ok program) = Spells ls program
 AnswersScript ls (Err (error.Fault line c)) = IsFault ls line (code_number c)

@@ -24,7 +24,7 @@ pub enum LookPart {
 pub enum LookStep {
     /// It goes on.
     Going,
-    /// A turn is under way or was taken meanwhile: the look begins again, with nothing kept.
+    /// A turn is under way or was taken meanwhile: the look starts again, with nothing kept.
     Poll,
     /// No turn was under way: the body follows.
     Body,

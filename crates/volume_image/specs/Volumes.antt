@@ -42,7 +42,7 @@ IsFault table bytes offset n =
 abbrev pub HasFault : List ClassEntry → List ℕ → Type 0
 HasFault table bytes = (offset : ℕ) × (n : ℕ) × IsFault table bytes offset n
 
--- what is answered: the volume that the bytes spell, the first fault, or want of memory
+-- what is answered: the volume that the bytes spell, the first fault, or no memory
 abbrev pub Answers : List ClassEntry → List ℕ → Result (List SegRecord) VolumeError → Type 0
 Answers table bytes (Ok rs) = Spells table bytes rs
 Answers table bytes (Err (error.Fault offset n)) = IsFault table bytes offset n

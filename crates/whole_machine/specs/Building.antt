@@ -29,7 +29,7 @@ with_record a m u e child kept =
     let b : State = with_part a m (holding (a.part m) u e child) in
     with_part b child.class (keeping (b.part child.class) (seg m child.serial) kept)
 
--- the state with a process at the begin of its script
+-- the state with a process at the start of its script
 abbrev pub with_new : State → ProcName → ℕ → ℕ → State
 with_new a n script ring =
     with_part a n.class (with_process (a.part n.class) n.processor n.slot (new_process n.class script ring 0))

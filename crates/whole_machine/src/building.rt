@@ -97,7 +97,7 @@ impl ModelState {
         ModelState::opening(alloc, shared)
     }
 
-    /// A process begins at the begin of a script. The answer is always Ok.
+    /// A process begins at the start of a script. The answer is always Ok.
     pub fn put_process(&mut self, name: &ProcName, script: u8, ring: Ring) -> Result<(), AllocError>
         requires class { name.now.class < classes self.old.shared }
         requires processor { name.now.processor < 4 }

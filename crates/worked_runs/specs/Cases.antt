@@ -145,7 +145,7 @@ abbrev pub reader_ended : List ℕ
 reader_ended = text (codes "class 1 high" ∷ codes "line 8" ∷ codes "line 8" ∷
     codes "process 1 0 ended script 1 place 10 ring 4" ∷ codes "regs 0 1 0 0 0 0 2 1 1 8 1 0 0 0 0 0" ∷ codes "closed" ∷ [])
 
--- the process of class 1 prints, is refused a fetch and a create, and begins again without end
+-- the process of class 1 prints, is refused a fetch and a create, and starts again without end
 unfoldable pub writer_and_other : Config
 writer_and_other = side_by_side_scripts writes_twice (I.Out 2 ∷ I.Fetch 2 2 2 2 ∷ I.Create 2 2 2 2 2 ∷ I.Jump 0 ∷ [])
 

@@ -23,7 +23,7 @@ abbrev pub is_words : Option Outcome → Bool
 is_words (Some (Words at words)) = true
 is_words _ = false
 
--- the look begins again
+-- the look starts again
 abbrev pub begins_again : Told Outcome → Bool
 begins_again told = polls told.ending
 
@@ -44,7 +44,7 @@ pub record Found (test : Told Outcome → Bool) : Type 0 where
   pub tells : NextTells look doing told
   pub passes : test told ≡ true
 
--- a look that begins again, and a turn of its guard was open between its steps
+-- a look that starts again, and a turn of its guard was open between its steps
 pub record IsCrossed : Type 0 where
   pub found : Found begins_again
   pub crossed : Sometime (Crosses found.look) (behind_first found.look) found.look.between

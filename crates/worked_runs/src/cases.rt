@@ -185,7 +185,7 @@ pub fn another_script_above_shows_nothing_below()
         codes "regs 0 6 0 0 0 0 0 0 0 0 0 0 0 0 0 0" ∷ codes "open" ∷ []) }
 {}
 
-/// An update of one segment doesn't make a look at another one begin again.
+/// An update of one segment doesn't make a look at another one start again.
 pub fn an_update_elsewhere_crosses_no_look()
     ensures words { console 1 two_segments update_elsewhere_within_look ≡ 0 ∷ [] }
     ensures whole { whole_console 1 two_segments update_elsewhere_within_look ≡ 0 ∷ [] }

@@ -2,7 +2,7 @@
 
 ghost use Rattle.worked_runs.specs.TwoLooks.{IsCrossed, IsAccepted};
 
-/// A reader's look that an update crosses begins again, and the look behind it is accepted after six steps.
+/// A reader's look that an update crosses starts again, and the look behind it is accepted after six steps.
 pub fn a_reader_looks_twice()
     ensures crossed { IsCrossed }
     ensures accepted { IsAccepted }

@@ -13,7 +13,7 @@ const READ_FAULT: Status = Status::HostFault(PortFault::Read { port: 0 });
 const WRITE_FAULT: Status = Status::HostFault(PortFault::Write { port: 0 });
 
 /// Lists of words with their kinds of usage: first those that aren't accepted, then those of commands that aren't carried out.
-const OTHER_WORDS: [(&[&str], u8); 18] = [
+const OTHER_WORDS: [(&[&str], u8); 14] = [
     (&["--help"], 1),
     (&["view", "-1"], 1),
     (&[], 2),
@@ -26,10 +26,6 @@ const OTHER_WORDS: [(&[&str], u8); 18] = [
     (&["sim", "x"], 6),
     (&["run", "x"], 6),
     (&["run"], 3),
-    (&["view", "0"], 3),
-    (&["large", "0"], 3),
-    (&["audit", "0"], 3),
-    (&["guard"], 3),
     (&["save"], 3),
     (&["restore"], 3),
 ];
