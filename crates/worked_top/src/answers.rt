@@ -65,12 +65,13 @@ fn run_cases() -> [Case; 11] {
 }
 
 /// What comes of showing texts.
-fn shown_cases() -> [Case; 5] {
+fn shown_cases() -> [Case; 6] {
     [
         (THREE_STEPS, 1000, 0, 0, Status::Done, THREE_STEPS),
         (WITH_COMMENTS, 1000, 0, 0, Status::Done, THREE_STEPS),
         (WITH_VOLUMES, 1000, 0, 0, Status::Done, WITH_VOLUMES),
         (THREE_STEPS, 0, 0, 0, WRITE_FAULT, ""),
+        (THREE_STEPS, 1000, 0, 1, WRITE_FAULT, ""),
         ("gemkernel 1\n", 1000, 0, 0, refused(2, 12), ""),
     ]
 }
