@@ -238,6 +238,7 @@ impl ProcessState {
     }
 
     /// The request of an instruction that asks the state, or the first refusal. None exactly for any other one.
+    #[inline(always)]
     pub(crate) fn ask(&self, shared: &Shared, instr: &Instr) -> Option<Result<Request, Rule>>
         requires { KnowsClasses (classes shared.now) self.now }
         ensures plan { (d : ℕ) → IfSome result (λ r. plan_of shared.now d self.now instr.now ≡ plan_by self.now r) }
@@ -293,6 +294,7 @@ impl ProcessState {
     }
 
     /// What it does next, as its plan says. Nothing is copied but what it asks.
+    #[inline(always)]
     pub fn next(&self, shared: &Shared, class: u8) -> Next
         requires { CanStep shared.now class self.now }
         ensures next { IsNext class self.now (plan shared.now class self.now) result }

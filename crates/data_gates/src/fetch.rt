@@ -137,6 +137,7 @@ impl Fetch {
 
     /// The operation of the next step.
     #[tactic(auto, using(crate::proofs::Fetched::word_asked))]
+    #[inline(always)]
     pub fn next_op(&self) -> Op
         ensures op { (d : ℕ) → result ≡ op_at d (step_op d (act_of self.now) (doing_of self.now)) }
         ensures class { LoadsOnly self.now.class result }
@@ -156,6 +157,7 @@ impl Fetch {
     }
 
     /// Takes the answer to the operation of the step.
+    #[inline(always)]
     pub fn absorb(&mut self, answer: u64) -> Outcome
         ensures outcome { result ≡ answers (step_told (act_of self.old) (doing_of self.old) answer) None }
         ensures doing { doing_of self.new ≡ (step_told (act_of self.old) (doing_of self.old) answer).doing }

@@ -173,6 +173,7 @@ impl Update {
 
     /// The operation of the next step.
     #[tactic(auto, using(crate::proofs::Updated::word_asked, turns::proofs::Turning::held_asks, turns::proofs::Turning::turning_asks))]
+    #[inline(always)]
     pub fn next_op(&self) -> Op
         ensures op { result ≡ op_at self.now.class (step_op self.now.class (act_of self.now) (doing_of self.now)) }
         ensures class { NamesOnly self.now.class result }
@@ -192,6 +193,7 @@ impl Update {
     }
 
     /// Takes the answer to the operation of the step.
+    #[inline(always)]
     pub fn absorb(&mut self, answer: u64) -> Outcome
         ensures outcome { result ≡ answers (step_told (act_of self.old) (doing_of self.old) answer) None }
         ensures doing { doing_of self.new ≡ (step_told (act_of self.old) (doing_of self.old) answer).doing }

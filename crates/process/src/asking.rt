@@ -33,6 +33,7 @@ pub fn is_once(request: &Request) -> bool
 }
 
 /// The first operation of a request.
+#[inline(always)]
 pub fn first_op(shared: &Shared, class: u8, state: &ProcessState, request: &Request) -> Op
     requires sound { IsSound shared.now }
     requires class { class < classes shared.now }

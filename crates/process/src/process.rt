@@ -144,6 +144,7 @@ impl Process {
     }
 
     /// The first operation of its next instruction.
+    #[inline(always)]
     fn planned_op(&self, shared: &Shared, next: &Next) -> Op
         requires sound { IsSound shared.now }
         requires fits { StandingFits shared.now self.now }
@@ -233,6 +234,7 @@ impl Process {
     }
 
     /// Takes the answer at a step that isn't the first of its instruction.
+    #[inline(always)]
     fn absorb_next(&mut self, shared: &Shared, answer: u64) -> Absorbed
         requires fits { StandingFits shared.now self.old }
         requires begun { self.old.doing ≡ Doing.Fresh → ⊥ }

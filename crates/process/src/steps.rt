@@ -198,6 +198,7 @@ pub fn step_swap_out(gate: &mut SwapOut, state: &mut ProcessState, answer: u64) 
 }
 
 /// A step of fetch, whose words go into the pad from place `pad` on.
+#[inline(always)]
 pub fn step_fetch(gate: &mut Fetch, pad: u8, state: &mut ProcessState, answer: u64) -> Step
     requires place { state.old.place < 256 }
     requires gate { IsLooking (IsFetch pad) (Fetching.doing_of gate.old) }
@@ -211,6 +212,7 @@ pub fn step_fetch(gate: &mut Fetch, pad: u8, state: &mut ProcessState, answer: u
 }
 
 /// A step of update.
+#[inline(always)]
 pub fn step_update(gate: &mut Update, state: &mut ProcessState, answer: u64) -> Step
     requires place { state.old.place < 256 }
     requires gate { IsUpdate gate.old.class gate.old }
@@ -228,6 +230,7 @@ impl Doing {
     ghost use Rattle.process.specs.Standing.{doing_in, IsHeld};
 
     /// The next operation of an unfinished instruction of a process of a class.
+    #[inline(always)]
     pub fn next_op(&self, table: &ClassTable, class: u8) -> Op
         requires { IsHeld class self.now }
         ensures { result ≡ op_at class (doing_op class (doing_in table.now self.now)) }
@@ -246,6 +249,7 @@ impl Doing {
 
     /// A step of an unfinished instruction of a process of a class: it takes the answer, and the process takes what
     /// takes effect.
+    #[inline(always)]
     pub fn step(
         &mut self,
         class: u8,

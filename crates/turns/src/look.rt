@@ -69,6 +69,7 @@ impl Look {
     }
 
     /// The operation of the part.
+    #[inline(always)]
     pub fn next_op(&self) -> Op
         requires { look_in_body self.now.part ≡ false }
         ensures op { result ≡ op_at (guard_class self.now.guard) (look_asks self.now.guard self.now.part) }

@@ -76,6 +76,7 @@ impl Turn {
     }
 
     /// The operation of the part.
+    #[inline(always)]
     pub fn next_op(&self) -> Op
         requires { turn_is_held self.now.part ≡ false }
         ensures op { result ≡ op_at (guard_class self.now.guard) (turn_asks self.now.guard self.now.part) }
