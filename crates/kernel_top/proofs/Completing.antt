@@ -1,5 +1,7 @@
 -- What is shown of a valid input, where no count rises, is one of the complete answers: every other has a cause that doesn't hold.
-use Rattle.std.proofs.Common.{◌≡◌, ℕ, inl, inr, Bool, List, [], ◌∷◌, ◌++◌, Some, None, refl, sym, ap, subst, ◌∙◌}
+use Rattle.std.proofs.Common.{◌≡◌, ◌⊎◌, ℕ, ◌+◌, ◌<◌, ◌≤◌, inl, inr, Bool, List, [], ◌∷◌, ◌++◌, Some, None, refl, sym, ap, subst, ◌∙◌, arith}
+use Rattle.std.proofs.lemmas.Bool.Decides.{nat_tests}
+use Rattle.std.specs.Prelude.{nat_le, if◌then◌else◌}
 use Rattle.std.specs.List.{AllByRecursion}
 use Rattle.class_model.specs.Config.{SegRecord}
 use Rattle.command_words.specs.declared.asked.Plan.{Plan}
@@ -15,7 +17,7 @@ use Rattle.command_view.specs.Viewed.{ViewShows}
 use Rattle.command_large.specs.Summed.{LargeShows}
 use Rattle.command_audit.specs.Audited.{AuditShows}
 use Rattle.command_guard.specs.Shown.{InputRead as GuardRead, IsTurn, GuardCause, GuardShows}
-use Rattle.command_save.specs.Disks.{Sight, KeepsNew}
+use Rattle.command_save.specs.Disks.{Sight, KeepsNew, length_in_use}
 use Rattle.command_threads.specs.Orders.{IsRoundOrder}
 use Rattle.command_save.specs.Read.{ConfigRead, VolumeRead, IsTurnOf, VolumeCause}
 use Rattle.command_save.specs.Shows.{Loaded, VolumeLoaded, SaveShows, RestoreShows, image_of, loaded_image}
@@ -25,11 +27,12 @@ use Rattle.host_ports.specs.Ports.{with_bytes}
 use Rattle.input_laws.proofs.ValidInputs.{told, not_too_long, config_told, config_right, volume_told, volume_right, config_memory, config_is_read, valid_input_is_read, reads_the_input}
 use Rattle.input_laws.specs.Valid.{NoneRose, HasConfig, HasVolume}
 use Rattle.loader.specs.Records.{Volumes}
+use Rattle.lists.specs.Lists.{part_of}
 use Rattle.release_guard.specs.declared.order.Order.{Order}
 use Rattle.release_guard.specs.Guard.{guard, LacksNothing, CanRelease, IsReleaseFault}
 use Rattle.release_guard.specs.Text.{Spells as SpellsOrder, IsFault as IsOrderFault}
 use Rattle.release_guard.proofs.OrderLaws.{one_order, never_both}
-use Rattle.safe_save.specs.Kept.{Image}
+use Rattle.safe_save.specs.Kept.{Image, Broken, start_of, half_in_use, kept_bytes, kept}
 use Rattle.volume_image.specs.Volumes.{Spells as SpellsVolume, IsFault as IsVolumeFault}
 use Rattle.volume_image.specs.Written.{written}
 use Rattle.volume_image.proofs.VolumeLaws.{one_volume, never_both as never_both_of_volume}
@@ -178,6 +181,21 @@ module _ (before after : Ports) where
 image_is : (a b : List ℕ) → Image a ≡ Image b → a ≡ b
 image_is a b e = cc
 
+-- Where a half keeps an image, its length is that of one.
+image_fits : (n a : ℕ) (disk bytes : List ℕ) → (if nat_le n 4194304 then kept_bytes (part_of disk a n) else Broken) ≡ Image bytes → n ≤ 4194304
+image_fits n a disk bytes keeps = grind (arith, nat_tests)
+
+no_image : (a : ℕ) (disk bytes : List ℕ) → kept_bytes (part_of disk a 0) ≡ Image bytes → ⊥
+no_image a disk bytes keeps = cc
+
+keeps_image : (found : ℕ) (bytes disk : List ℕ) → kept disk ≡ Image bytes → found ≡ length_in_use disk → (found ≡ 0) ⊎ (4194304 < found) → ⊥
+keeps_image found bytes disk keeps is (inl none) =
+    let half = start_of (half_in_use disk) + 8 in
+    no_image half disk bytes (subst (λ n. (if nat_le n 4194304 then kept_bytes (part_of disk half n) else Broken) ≡ Image bytes) (sym is ∙ none) keeps)
+keeps_image found bytes disk keeps is (inr great) =
+    let fits = image_fits (length_in_use disk) (start_of (half_in_use disk) + 8) disk bytes keeps in
+    omega (arith, is, great, fits)
+
 module _ {D : Type 0} (d : Sight D) (before after : Ports) (old new : D) where
   module _ (k : ConfigText) (v : List SegRecord) (has : HasConfig before k) where
     -- what was read is what port 0 has
@@ -224,20 +242,20 @@ module _ {D : Type 0} (d : Sight D) (before after : Ports) (old new : D) where
         never_both_of_volume k.table keeps.bytes v has.holds.valid.table keeps.spelled offset code (subst (λ bytes. IsVolumeFault k.table bytes offset code) (restored_volume keeps l) there)
 
   save_completes : (status : Status) → SaveShows d before after old new status → SaveCompletes d before after old new status
-  save_completes Done o k v has volume amiss = λ honest. subst (λ bytes. KeepsNew d bytes old new) (same_saved k v has volume o.of) (o.disk honest)
-  save_completes (HostFault Disk) o k v has volume amiss = absurd (amiss.disk o.rose)
-  save_completes (Refused (Store length)) o k v has volume amiss = absurd (amiss.store tt)
-  save_completes other o k v has volume amiss = memory_is_done (d.honest old → KeepsNew d (written k.table v) old new) other (save_cause k v has volume other amiss.ports o.0)
+  save_completes Done o k v has volume none stays stored = λ honest. subst (λ bytes. KeepsNew d bytes old new) (same_saved k v has volume o.of) (o.disk honest)
+  save_completes (HostFault Disk) o k v has volume none stays stored = absurd (stays o.rose)
+  save_completes (Refused (Store found)) o k v has volume none stays stored = absurd (stored tt)
+  save_completes other o k v has volume none stays stored = memory_is_done (d.honest old → KeepsNew d (written k.table v) old new) other (save_cause k v has volume other none o.0)
 
   restore_completes : (status : Status) → RestoreShows d before after old new status → PortsShow before after status → RestoreCompletes d before after old new status
-  restore_completes Done o ports k v has keeps amiss = subst (λ bytes. (after 1).taken ≡ with_bytes (before 1).taken bytes) (same_restored k v has keeps o.of) o.taken
-  restore_completes (HostFault (Write port)) o ports k v has keeps amiss = absurd (amiss.ports.pushes port ports.faults.rose)
-  restore_completes (HostFault Disk) o ports k v has keeps amiss = absurd (amiss.disk o.1)
-  restore_completes (Refused (Store length)) o ports k v has keeps amiss = absurd (amiss.store tt)
-  restore_completes (Refused (Volume port offset code)) o ports k v has keeps amiss = absurd (loaded_right k v has keeps o.1 offset code o.2)
-  restore_completes NoMemory o ports k v has keeps amiss = tt
-  restore_completes other o ports k v has keeps amiss =
-      memory_is_done ((after 1).taken ≡ with_bytes (before 1).taken (written k.table v)) other (config_memory before after k other has amiss.ports o.0)
+  restore_completes Done o ports k v has keeps none stays = subst (λ bytes. (after 1).taken ≡ with_bytes (before 1).taken bytes) (same_restored k v has keeps o.of) o.taken
+  restore_completes (HostFault (Write port)) o ports k v has keeps none stays = absurd (none.pushes port ports.faults.rose)
+  restore_completes (HostFault Disk) o ports k v has keeps none stays = absurd (stays o.1)
+  restore_completes (Refused (Store found)) o ports k v has keeps none stays = absurd (keeps_image found keeps.bytes (d.seen old) keeps.keeps (o.1.found keeps.honest) o.1.none)
+  restore_completes (Refused (Volume port offset code)) o ports k v has keeps none stays = absurd (loaded_right k v has keeps o.1 offset code o.2)
+  restore_completes NoMemory o ports k v has keeps none stays = tt
+  restore_completes other o ports k v has keeps none stays =
+      memory_is_done ((after 1).taken ≡ with_bytes (before 1).taken (written k.table v)) other (config_memory before after k other has none o.0)
 
   pub store_completes : (c : StoreCommand) (status : Status) → StoreShows d c before after old new status → PortsShow before after status → StoreCompletes d c before after old new status
   store_completes store.Save status o ports = save_completes status o.shows

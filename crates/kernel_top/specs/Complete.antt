@@ -107,15 +107,10 @@ abbrev pub IsStore : Status → Type 0
 IsStore (Refused (Store length)) = Unit {0}
 IsStore _ = ⊥
 
--- No count of the host rose in the call, nor that of the disk, and the answer isn't Store.
-pub record NothingAmiss {D : Type 0} (d : Sight D) (before after : Ports) (old new : D) (status : Status) : Type 0 where
-  pub ports : NoneRose before after
-  pub disk : ¬ HasRisen (d.faults old) (d.faults new)
-  pub store : ¬ IsStore status
-
--- Port 0 has a configuration, and port 1 a volume of its table. An honest disk keeps the volume.
+-- Port 0 has a configuration, and port 1 a volume of its table. No count rose, that of the disk neither, and the answer isn't
+-- Store. Then an honest disk keeps the volume.
 abbrev pub SaveCompletes : {D : Type 0} → Sight D → Ports → Ports → D → D → Status → Type 0
-SaveCompletes d before after old new status = (k : ConfigText) (v : List SegRecord) → HasConfig before k → HasVolume k.table 1 before v → NothingAmiss d before after old new status →
+SaveCompletes d before after old new status = (k : ConfigText) (v : List SegRecord) → HasConfig before k → HasVolume k.table 1 before v → NoneRose before after → ¬ HasRisen (d.faults old) (d.faults new) → ¬ IsStore status →
     IsDone (d.honest old → KeepsNew d (written k.table v) old new) status
 
 -- the disk is honest, and keeps bytes that spell the volume of the table
@@ -125,9 +120,10 @@ pub record KeepsVolume {D : Type 0} (d : Sight D) (old : D) (k : ConfigText) (v 
   pub keeps : kept (d.seen old) ≡ Image bytes
   pub spelled : SpellsVolume k.table bytes v
 
--- Port 0 has a configuration, and an honest disk keeps a volume of its table. Port 1 takes just that volume.
+-- Port 0 has a configuration, and an honest disk keeps a volume of its table. No count rose, that of the disk neither. Then port
+-- 1 takes just that volume. The answer isn't Store, since the disk keeps one.
 abbrev pub RestoreCompletes : {D : Type 0} → Sight D → Ports → Ports → D → D → Status → Type 0
-RestoreCompletes d before after old new status = (k : ConfigText) (v : List SegRecord) → HasConfig before k → KeepsVolume d old k v → NothingAmiss d before after old new status →
+RestoreCompletes d before after old new status = (k : ConfigText) (v : List SegRecord) → HasConfig before k → KeepsVolume d old k v → NoneRose before after → ¬ HasRisen (d.faults old) (d.faults new) →
     IsDone ((after 1).taken ≡ with_bytes (before 1).taken (written k.table v)) status
 
 -- ---- each top call
