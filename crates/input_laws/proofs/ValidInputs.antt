@@ -8,7 +8,7 @@ use Rattle.command_input.specs.declared.status.Status.TheVariants.{Done, Refused
 use Rattle.command_input.specs.declared.status.Refusal.TheVariants.{Config, Class, Volume, Load, TooLong, Release, Store}
 use Rattle.command_input.specs.declared.status.PortFault.TheVariants.{Read, Write, Disk}
 use Rattle.command_input.specs.Answer.{ConfigCause, InputCause}
-use Rattle.command_input.specs.Input.{Ports, IfTold, IsTooLong, IsTurnOf, IsAccepted, ReadsBelow, IsAmong, limit}
+use Rattle.command_input.specs.Input.{Ports, IfTold, IsTooLong, IsTurnOf, IsAccepted, AreNamedBelow, ReadsBelow, IsAmong, limit}
 use Rattle.config_text.specs.declared.config.Config.{Config as ConfigText}
 use Rattle.config_text.specs.Text.{Spells, IsFault}
 use Rattle.config_text.proofs.ConfigLaws.{one_config, never_both}
@@ -20,7 +20,7 @@ use Rattle.loader.specs.Records.{Volumes, Ascend, IsLoadFault, named_by, numbers
 use Rattle.loader.proofs.NamedVolumes.{contains_behind, contains_cases}
 use Rattle.volume_image.specs.Volumes.{Spells as SpellsVolume, IsFault as IsVolumeFault}
 use Rattle.volume_image.proofs.VolumeLaws.{one_volume, never_both as never_both_of_volume}
-use Rattle.input_laws.specs.Laws.{ValidInputIsRead, ConfigIsRead, ReadsTheInput, CalmNeverRises}
+use Rattle.input_laws.specs.Laws.{ValidInputIsRead, ConfigIsRead, ReadsTheInput, HasOneInput, CalmNeverRises}
 use Rattle.input_laws.specs.Valid.{NoneRose, HasLeft, HasConfig, HasVolume, IsValidInput}
 
 -- ---- the bytes of a port
@@ -28,6 +28,10 @@ use Rattle.input_laws.specs.Valid.{NoneRose, HasLeft, HasConfig, HasVolume, IsVa
 -- what holds of the bytes that a host tells, of the bytes that it told
 pub told : (left : Told) (bytes : List ℕ) (P : List ℕ → Type 0) → left ≡ Some bytes → IfTold left P → P bytes
 told left bytes P e h = subst (λ (t : Told). IfTold t P) e h
+
+-- and the other way round
+left_told : (left : Told) (bytes : List ℕ) (P : List ℕ → Type 0) → left ≡ Some bytes → P bytes → IfTold left P
+left_told left bytes P e h = subst (λ (t : Told). IfTold t P) (sym e) h
 
 -- a port within its limit isn't too long
 pub not_too_long : (p : ℕ) (before after : Ports) (P : List ℕ → Type 0) → HasLeft p before P → ¬ IsTooLong p before after
@@ -113,17 +117,35 @@ module _ (wanted : Option ℕ) (before after : Ports) (k : ConfigText) (vs : Vol
   same_config : (n : ℕ) (l : ConfigText) (ws : Volumes) → ReadsBelow n before after l ws → l ≡ k
   same_config n l ws reads = config_told before k l valid.config reads.config
 
-  same_volumes : (ws : Volumes) → ReadsBelow 5 before after k ws → ws ≡ vs
-  same_volumes ws reads = one_list (IsAccepted k.table before after) (λ (v : ℕ × List SegRecord). HasVolume k.table v.0 before v.1) one 0 ws vs reads.volumes valid.volumes
-      reads.numbers.ascend valid.numbers.ascend
-      (λ p c. let named = reads.numbers.named p c in valid.numbers.all p (some (numbers_of ws) p reads.numbers.ascend c) named.0 named.1)
-      (λ p c. let named = valid.numbers.named p c in reads.numbers.all p (some (numbers_of vs) p valid.numbers.ascend c) named.0 named.1)
+  -- volumes at the ports that it names, which have what those ports have left, are its volumes
+  its_volumes : (P : ℕ × List SegRecord → Type 0) → ((v w : ℕ × List SegRecord) → P v → HasVolume k.table w.0 before w.1 → v.0 ≡ w.0 → v.1 ≡ w.1) → (ws : Volumes) → AllByRecursion P ws → AreNamedBelow 5 k (numbers_of ws) → ws ≡ vs
+  its_volumes P one ws all numbers = one_list P (λ (v : ℕ × List SegRecord). HasVolume k.table v.0 before v.1) one 0 ws vs all valid.volumes
+      numbers.ascend valid.numbers.ascend (among ws vs numbers valid.numbers) (among vs ws valid.numbers numbers)
     where
       some : (ns : List ℕ) (p : ℕ) → Ascend 0 ns → Contains ns p → 1 ≤ p
       some ns p up c = let a = above 0 ns p up c in omega (arith, a)
 
+      among : (xs ys : Volumes) → AreNamedBelow 5 k (numbers_of xs) → AreNamedBelow 5 k (numbers_of ys) → (p : ℕ) → Contains (numbers_of xs) p → Contains (numbers_of ys) p
+      among xs ys these those p c = let named = these.named p c in those.all p (some (numbers_of xs) p these.ascend c) named.0 named.1
+
+  same_volumes : (ws : Volumes) → ReadsBelow 5 before after k ws → ws ≡ vs
+  same_volumes ws reads = its_volumes (IsAccepted k.table before after) one ws reads.volumes reads.numbers
+    where
       one : (v w : ℕ × List SegRecord) → IsAccepted k.table before after v → HasVolume k.table w.0 before w.1 → v.0 ≡ w.0 → v.1 ≡ w.1
       one v w accepted has e = volume_told k.table w.0 before w.1 v.1 table has (subst (λ n. IfTold (before n).left (λ bytes. SpellsVolume k.table bytes v.1)) e accepted.left)
+
+  valid_volumes : (other : Option ℕ) (ws : Volumes) → IsValidInput other before k ws → ws ≡ vs
+  valid_volumes other ws that = its_volumes (λ (v : ℕ × List SegRecord). HasVolume k.table v.0 before v.1) one ws that.volumes that.numbers
+    where
+      one : (v w : ℕ × List SegRecord) → HasVolume k.table v.0 before v.1 → HasVolume k.table w.0 before w.1 → v.0 ≡ w.0 → v.1 ≡ w.1
+      one v w these has e =
+          let here : HasVolume k.table w.0 before v.1 = subst (λ n. HasVolume k.table n before v.1) e these in
+          volume_told k.table w.0 before w.1 v.1 table has (left_told (before w.0).left here.bytes (λ bytes. SpellsVolume k.table bytes v.1) here.told here.holds)
+
+  valid_input : (other : Option ℕ) (l : ConfigText) (ws : Volumes) → IsValidInput other before l ws → (l ≡ k) × (ws ≡ vs)
+  valid_input other l ws that =
+      let e = config_told before k l valid.config (left_told (before 0).left that.config.bytes (λ bytes. Spells bytes l) that.config.told that.config.holds) in
+      (e, valid_volumes other ws (subst (λ (x : ConfigText). IsValidInput other before x ws) e that))
 
   same_input : (l : ConfigText) (ws : Volumes) → ReadsBelow 5 before after l ws → (l ≡ k) × (ws ≡ vs)
   same_input l ws reads = let e = same_config 5 l ws reads in (e, same_volumes ws (subst (λ (x : ConfigText). ReadsBelow 5 before after x ws) e reads))
@@ -182,6 +204,9 @@ valid_input_is_read wanted before after k vs status valid none fails = only_memo
 
 pub reads_the_input : ReadsTheInput
 reads_the_input wanted before after k l vs ws valid reads = same_input wanted before after k vs valid l ws reads
+
+pub has_one_input : HasOneInput
+has_one_input wanted other before k l vs ws valid that = valid_input wanted before before k vs valid other l ws that
 
 -- ---- a configuration by itself
 

@@ -22,6 +22,10 @@ ConfigIsRead = (before after : Ports) (k : ConfigText) (status : Status) → Has
 abbrev pub ReadsTheInput : Type 0
 ReadsTheInput = (wanted : Option ℕ) (before after : Ports) (k l : ConfigText) (vs ws : Volumes) → IsValidInput wanted before k vs → ReadsBelow 5 before after l ws → (l ≡ k) × (ws ≡ vs)
 
+-- Ports have one valid input at most, whichever class is asked for.
+abbrev pub HasOneInput : Type 0
+HasOneInput = (wanted other : Option ℕ) (before : Ports) (k l : ConfigText) (vs ws : Volumes) → IsValidInput wanted before k vs → IsValidInput other before l ws → (l ≡ k) × (ws ≡ vs)
+
 -- Over a calm host no count rises in any call.
 abbrev pub CalmNeverRises : Type 0
 CalmNeverRises = (old new : Calm) → NoneRose (calm_port old) (calm_port new)
