@@ -9,7 +9,7 @@ use Rattle.command_input.specs.declared.status.Status.{Status}
 use Rattle.command_input.specs.declared.status.Status.TheVariants.{Done, Refused, HostFault, NoMemory}
 use Rattle.command_input.specs.declared.status.Refusal.TheVariants.{Volume, TooLong, Release}
 use Rattle.command_input.specs.declared.status.PortFault.TheVariants.{Read, Write}
-use Rattle.command_input.specs.Input.{Ports, IfTold, Untouched, NothingPushed, NoneFailed, IsTooLong, IsReadWhole, limit}
+use Rattle.command_input.specs.Input.{Ports, IfTold, Untouched, NothingPushed, NoneFailed, BrokeOff, IsBrokenOff, IsTooLong, IsReadWhole, limit}
 use Rattle.command_input.specs.Reading.{ReadsIn, ReadFails, VolumeReads, VolumeFails}
 use Rattle.command_input.specs.Answer.{PortsShow}
 use Rattle.command_input.proofs.Failures.{untouched_none, none_on, none_pull, none_push, pull_none, pull_one, push_none, push_one}
@@ -36,7 +36,7 @@ pub reading_fails : (before after : Ports) (s : Status) → ReadFails 0 before a
 reading_fails before after NoMemory f =
     silent_shows before after NoMemory tt (untouched_silent before after f) (λ p lt. f p) (record { silence = untouched_silent before after f; faults = untouched_none before after f; unread = tt })
 reading_fails before after (HostFault (Read port)) f = subst (λ q. GuardShows before after (HostFault (Read q))) (sym f.0)
-    (silent_shows before after (HostFault (Read 0)) (inl refl, f.2) (silent_pull 0 before after f.1) (first_others before after f.1) (record { silence = silent_pull 0 before after f.1; faults = pull_one 0 before after f.1 f.2; unread = behind_0 before after f.1 }))
+    (silent_shows before after (HostFault (Read 0)) (inl refl, f.2) (silent_pull 0 before after f.1) (first_others before after f.1) (record { silence = silent_pull 0 before after f.1; faults = pull_one 0 before after f.1 f.2.rose; unread = behind_0 before after f.1 }))
 reading_fails before after (Refused (TooLong port)) f = subst (λ q. GuardShows before after (Refused (TooLong q))) (sym f.0)
     (silent_shows before after (Refused (TooLong 0)) (inl refl, f.2) (silent_pull 0 before after f.1) (first_others before after f.1) (record { silence = silent_pull 0 before after f.1; faults = pull_none 0 before after f.1 f.3; unread = behind_0 before after f.1 }))
 reading_fails before after _ f = absurd f
@@ -92,8 +92,8 @@ module _ (before middle after : Ports) (k : Order) (had : OrderHad before middle
     whole = whole_as 0 before middle before after refl (ap (λ (x : Port). x.left) zero_same) had.whole;
   }
 
-  one_rose : Rose (middle 1).pulls (after 1).pulls → Rose (before 1).pulls (after 1).pulls
-  one_rose rose = subst (λ (x : Port). Rose x.pulls (after 1).pulls) one_same rose
+  one_broken : IsBrokenOff 1 middle after → IsBrokenOff 1 before after
+  one_broken broken = subst (λ (x : Port). BrokeOff (limit 1) x (after 1)) one_same broken
 
   one_long : IsTooLong 1 middle after → IsTooLong 1 before after
   one_long long = subst (λ (x : Port). IfTold x.left (λ bytes. (limit 1 < length bytes) × ((after 1).left ≡ Some (drop (limit 1 + 1) bytes)))) one_same long
@@ -107,10 +107,10 @@ module _ (before middle after : Ports) (k : Order) (had : OrderHad before middle
   pub no_memory : (after 1).pulls ≡ (middle 1).pulls → GuardShows before after NoMemory
   no_memory stays = silent_shows before after NoMemory tt both_silent above (record { silence = both_silent; faults = none_here stays; unread = tt })
 
-  pub no_pull : Rose (middle 1).pulls (after 1).pulls → GuardShows before after (HostFault (Read 1))
-  no_pull rose =
-      silent_shows before after (HostFault (Read 1)) (inr (refl, (k, order_read)), one_rose rose) both_silent above
-      (record { silence = both_silent; faults = none_pull 1 before middle after (pull_none 0 before middle had.keeps had.stays) (pull_one 1 middle after keeps rose); unread = above })
+  pub no_pull : IsBrokenOff 1 middle after → GuardShows before after (HostFault (Read 1))
+  no_pull broken =
+      silent_shows before after (HostFault (Read 1)) (inr (refl, (k, order_read)), one_broken broken) both_silent above
+      (record { silence = both_silent; faults = none_pull 1 before middle after (pull_none 0 before middle had.keeps had.stays) (pull_one 1 middle after keeps broken.rose); unread = above })
 
   pub too_long : IsTooLong 1 middle after → (after 1).pulls ≡ (middle 1).pulls → GuardShows before after (Refused (TooLong 1))
   too_long long stays =

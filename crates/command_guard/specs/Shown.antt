@@ -14,7 +14,7 @@ use Rattle.command_input.specs.declared.status.Status.{Status}
 use Rattle.command_input.specs.declared.status.Status.TheVariants.{Done, Refused, HostFault, NoMemory}
 use Rattle.command_input.specs.declared.status.Refusal.TheVariants.{Volume, TooLong, Release}
 use Rattle.command_input.specs.declared.status.PortFault.TheVariants.{Read, Write}
-use Rattle.command_input.specs.Input.{Ports, IfTold, IsTooLong, IsReadWhole}
+use Rattle.command_input.specs.Input.{Ports, IfTold, IsBrokenOff, IsTooLong, IsReadWhole}
 use Rattle.command_input.specs.Answer.{PortsShow}
 
 -- Port 0 was read to its end, and its bytes spell this order.
@@ -44,7 +44,7 @@ pub record IsOrderFault (before after : Ports) (line code : ℕ) : Type 0 where
 -- the push of the new volume.
 abbrev pub GuardCause : Ports → Ports → Status → Type 0
 -- it was this port's turn, and a pull of it failed
-GuardCause before after (HostFault (Read port)) = IsTurn port before after × Rose (before port).pulls (after port).pulls
+GuardCause before after (HostFault (Read port)) = IsTurn port before after × IsBrokenOff port before after
 -- it was this port's turn, and it has more bytes left than the limit
 GuardCause before after (Refused (TooLong port)) = IsTurn port before after × IsTooLong port before after
 -- the first fault of the order, or of a release on the volume

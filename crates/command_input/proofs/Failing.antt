@@ -2,7 +2,7 @@
 use Rattle.std.proofs.Common.{◌≡◌, ℕ, ◌+◌, ◌<◌, ◌≤◌, ◌⊎◌, inl, inr, List, [], ◌∷◌, Option, Some, None, length, drop, refl, sym, ap, subst, ◌∙◌, arith}
 use Rattle.std.proofs.lemmas.Bool.{cases_eq}
 use Rattle.std.specs.Prelude.{Contains}
-use Rattle.host_ports.specs.Ports.{Port, Rose, PullKeeps}
+use Rattle.host_ports.specs.Ports.{Port, PullKeeps}
 use Rattle.config_text.specs.declared.config.Config.{Config as ConfigText}
 use Rattle.config_text.specs.Text.{Spells, IsFault}
 use Rattle.config_text.specs.Valid.{IsValid}
@@ -12,7 +12,7 @@ use Rattle.command_input.specs.declared.status.Status.TheVariants.{Refused, Host
 use Rattle.command_input.specs.declared.status.Refusal.TheVariants.{Config, Class, Volume, Load, TooLong}
 use Rattle.command_input.specs.declared.status.PortFault.TheVariants.{Read}
 use Rattle.loader.specs.Records.{Volumes, named_by, IsLoadFault}
-use Rattle.command_input.specs.Input.{Ports, IfTold, Untouched, NothingPushed, NoneFailed, IsTooLong, IsReadWhole, OfConfiguration, IsAmong, IsNext, ConfigHad, InputHad, limit}
+use Rattle.command_input.specs.Input.{Ports, IfTold, Untouched, NothingPushed, NoneFailed, BrokeOff, IsBrokenOff, IsTooLong, IsReadWhole, OfConfiguration, IsAmong, IsNext, ConfigHad, InputHad, limit}
 use Rattle.command_input.specs.Reading.{ReadsIn, ReadFails, VolumeFails, FailsAt, VolumesFail, VolumesRead, IsNoClass}
 use Rattle.command_input.specs.Answer.{ConfigCause, InputCause, ConfigFails, InputFails, OnlyNamedRead, PortsShow}
 use Rattle.loader.proofs.NamedVolumes.{contains_behind, contains_cases}
@@ -57,7 +57,7 @@ reading_fails before after (HostFault (Read port)) f = subst (λ q. ConfigFails 
   cause = (refl, f.2);
   silent = silent_pull 0 before after f.1;
   others = f.1.others;
-  ports = record { silence = silent_pull 0 before after f.1; faults = pull_one 0 before after f.1 f.2; unread = behind_0 before after f.1 };
+  ports = record { silence = silent_pull 0 before after f.1; faults = pull_one 0 before after f.1 f.2.rose; unread = behind_0 before after f.1 };
 })
 reading_fails before after (Refused (TooLong port)) f = subst (λ q. ConfigFails before after (Refused (TooLong q))) (sym f.0) (record {
   cause = (refl, f.2);
@@ -85,7 +85,7 @@ config_memory before after text read = record {
 
 -- where there is no configuration, there is no input
 config_cause : (wanted : Option ℕ) (before after : Ports) (s : Status) → ConfigCause before after s → InputCause wanted before after s
-config_cause wanted before after (HostFault (Read port)) f = (inl f.0, subst (λ q. Rose (before q).pulls (after q).pulls) (sym f.0) f.1)
+config_cause wanted before after (HostFault (Read port)) f = (inl f.0, subst (λ q. IsBrokenOff q before after) (sym f.0) f.1)
 config_cause wanted before after (Refused (TooLong port)) f = (inl f.0, subst (λ q. IsTooLong q before after) (sym f.0) f.1)
 config_cause wanted before after (Refused (Config line code)) f = f
 config_cause wanted before after NoMemory f = tt
@@ -188,11 +188,11 @@ module _ (wanted : Option ℕ) (before middle after : Ports) (k : ConfigText) (h
   fail_shows (HostFault (Read p)) f = subst (λ q. Shows (HostFault (Read q))) (sym f.fails.0) (
     (
       inr (next wanted before middle after k had among (HostFault (Read p)) n f (IsAmong wanted) among),
-      subst (λ (x : Port). Rose x.pulls (after n).pulls) (port_same wanted before middle after k had among (HostFault (Read p)) n f) f.fails.2,
+      subst (λ (x : Port). BrokeOff (limit n) x (after n)) (port_same wanted before middle after k had among (HostFault (Read p)) n f) f.fails.2,
     ),
     record {
       silence = silent wanted before middle after k had among (HostFault (Read p)) n f;
-      faults = none_pull n before f.middle after (none wanted before middle after k had among (HostFault (Read p)) n f) (pull_one n f.middle after f.fails.1 f.fails.2);
+      faults = none_pull n before f.middle after (none wanted before middle after k had among (HostFault (Read p)) n f) (pull_one n f.middle after f.fails.1 f.fails.2.rose);
       unread = behind wanted before middle after k had among (HostFault (Read p)) n f;
     },
   )

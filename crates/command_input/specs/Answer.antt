@@ -2,14 +2,14 @@
 use Rattle.std.specs.Prelude.{◌≡◌, ◌≢◌, ◌<◌, ◌≤◌, ◌⊎◌, ℕ, length, Contains, Option, Some}
 use Rattle.config_text.specs.declared.config.Config.{Config as ConfigText}
 use Rattle.config_text.specs.Text.{Spells, IsFault}
-use Rattle.host_ports.specs.Ports.{Rose, SameBut}
+use Rattle.host_ports.specs.Ports.{SameBut}
 use Rattle.volume_image.specs.Volumes.{IsFault as IsVolumeFault}
 use Rattle.command_input.specs.declared.status.Status.{Status}
 use Rattle.command_input.specs.declared.status.Status.TheVariants.{Done, Refused, HostFault, Unfinished, NoMemory}
 use Rattle.command_input.specs.declared.status.Refusal.TheVariants.{Config, Class, Volume, Load, TooLong}
 use Rattle.command_input.specs.declared.status.PortFault.TheVariants.{Read, Write}
 use Rattle.loader.specs.Records.{Volumes, named_by, IsLoadFault}
-use Rattle.command_input.specs.Input.{Ports, IfTold, NothingPushed, NoneFailed, OnePullFailed, OnePushFailed, IsTooLong, IsReadWhole, OfConfiguration, ReadsBelow, IsAmong, IsNext, IsTurnOf}
+use Rattle.command_input.specs.Input.{Ports, IfTold, NothingPushed, NoneFailed, OnePullFailed, OnePushFailed, IsBrokenOff, IsTooLong, IsReadWhole, OfConfiguration, ReadsBelow, IsAmong, IsNext, IsTurnOf}
 
 -- ---- at every answer
 
@@ -45,7 +45,7 @@ pub record PortsShow (before after : Ports) (status : Status) : Type 0 where
 
 -- Why there is no configuration: a pull of port 0 failed, it has too many bytes, or they spell none, with their first fault.
 abbrev pub ConfigCause : Ports → Ports → Status → Type 0
-ConfigCause before after (HostFault (Read port)) = (port ≡ 0) × Rose (before 0).pulls (after 0).pulls
+ConfigCause before after (HostFault (Read port)) = (port ≡ 0) × IsBrokenOff 0 before after
 ConfigCause before after (Refused (TooLong port)) = (port ≡ 0) × IsTooLong 0 before after
 ConfigCause before after (Refused (Config line code)) = IsReadWhole 0 before after × IfTold (before 0).left (λ bytes. IsFault bytes line code)
 ConfigCause before after NoMemory = Unit {0}
@@ -64,7 +64,7 @@ pub record ConfigFails (before after : Ports) (status : Status) : Type 0 where
 -- ports of the volumes with their bytes, in ascending order, and then the records of all volumes.
 abbrev pub InputCause : Option ℕ → Ports → Ports → Status → Type 0
 -- it was this port's turn, and a pull of it failed
-InputCause wanted before after (HostFault (Read port)) = IsTurnOf wanted port before after × Rose (before port).pulls (after port).pulls
+InputCause wanted before after (HostFault (Read port)) = IsTurnOf wanted port before after × IsBrokenOff port before after
 -- it was this port's turn, and it has more bytes left than the limit
 InputCause wanted before after (Refused (TooLong port)) = IsTurnOf wanted port before after × IsTooLong port before after
 -- port 0 was read, and its bytes spell no configuration: this is their first fault

@@ -2,7 +2,7 @@
 -- holds for a host that tells them.
 use Rattle.std.specs.Prelude.{◌≡◌, ◌≢◌, ◌<◌, ◌≤◌, ◌+◌, ◌⊎◌, ℕ, zero, suc, List, [], length, drop, Contains, Option, Some, None}
 use Rattle.std.specs.List.{AllByRecursion}
-use Rattle.host_ports.specs.Ports.{Port, Told, Rose, PullKeeps}
+use Rattle.host_ports.specs.Ports.{Port, Told, Rose, IsPrefixPulled, PullKeeps}
 use Rattle.labels.specs.Label.{ClassEntry}
 use Rattle.config_text.specs.declared.config.Config.{Config as ConfigText}
 use Rattle.config_text.specs.Text.{Spells}
@@ -51,6 +51,15 @@ pub record OnePushFailed (port : ℕ) (before after : Ports) : Type 0 where
   pub rose : Rose (before port).pushes (after port).pushes
   pub pulls : (p : ℕ) → (after p).pulls ≡ (before p).pulls
   pub pushes : (p : ℕ) → p ≢ port → (after p).pushes ≡ (before p).pushes
+
+-- a pull of the port failed, and no more of the bytes that it had left were pulled than its limit
+pub record BrokeOff (most : ℕ) (before after : Port) : Type 0 where
+  pub rose : Rose before.pulls after.pulls
+  pub left : IsPrefixPulled before.left after.left (most + 1)
+
+-- reading the port broke off
+abbrev pub IsBrokenOff : ℕ → Ports → Ports → Type 0
+IsBrokenOff p before after = BrokeOff (limit p) (before p) (after p)
 
 -- the port has taken no byte, and no push to it has failed
 abbrev pub IsUnpushed : Port → Port → Type 0

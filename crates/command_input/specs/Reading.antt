@@ -2,7 +2,7 @@
 use Rattle.std.specs.Prelude.{◌≡◌, ◌<◌, ◌≤◌, ℕ, List, length, Contains, Option, Some}
 use Rattle.std.specs.List.{AllByRecursion}
 use Rattle.labels.specs.Label.{ClassEntry}
-use Rattle.host_ports.specs.Ports.{Rose, PullKeeps}
+use Rattle.host_ports.specs.Ports.{PullKeeps}
 use Rattle.config_text.specs.declared.config.Config.{Config as ConfigText}
 use Rattle.class_model.specs.Config.{SegRecord}
 use Rattle.volume_image.specs.Valid.{IsVolume}
@@ -12,7 +12,7 @@ use Rattle.command_input.specs.declared.status.Status.{Status}
 use Rattle.command_input.specs.declared.status.Status.TheVariants.{Refused, HostFault, NoMemory}
 use Rattle.command_input.specs.declared.status.Refusal.TheVariants.{Class, TooLong, Volume}
 use Rattle.command_input.specs.declared.status.PortFault.TheVariants.{Read}
-use Rattle.command_input.specs.Input.{Ports, IfTold, Untouched, NothingPushed, NoneFailed, IsTooLong, IsReadWhole, IsAccepted, AreNamedBelow, limit}
+use Rattle.command_input.specs.Input.{Ports, IfTold, Untouched, NothingPushed, NoneFailed, IsBrokenOff, IsTooLong, IsReadWhole, IsAccepted, AreNamedBelow, limit}
 
 -- the bytes are all that the port had left, and they are within its limit
 pub record ReadsIn (port : ℕ) (before after : Ports) (bytes : List ℕ) : Type 0 where
@@ -25,7 +25,7 @@ pub record ReadsIn (port : ℕ) (before after : Ports) (bytes : List ℕ) : Type
 -- why there are no bytes
 abbrev pub ReadFails : ℕ → Ports → Ports → Status → Type 0
 ReadFails port before after NoMemory = Untouched before after
-ReadFails port before after (HostFault (Read p)) = (p ≡ port) × PullKeeps port before after × Rose (before port).pulls (after port).pulls
+ReadFails port before after (HostFault (Read p)) = (p ≡ port) × PullKeeps port before after × IsBrokenOff port before after
 ReadFails port before after (Refused (TooLong p)) = (p ≡ port) × PullKeeps port before after × IsTooLong port before after × ((after port).pulls ≡ (before port).pulls)
 ReadFails port before after _ = ⊥
 
@@ -45,7 +45,7 @@ pub record IsNoVolume (table : List ClassEntry) (port : ℕ) (before after : Por
 -- why there is no volume
 abbrev pub VolumeFails : List ClassEntry → ℕ → Ports → Ports → Status → Type 0
 VolumeFails table port before after NoMemory = PullKeeps port before after × ((after port).pulls ≡ (before port).pulls)
-VolumeFails table port before after (HostFault (Read p)) = (p ≡ port) × PullKeeps port before after × Rose (before port).pulls (after port).pulls
+VolumeFails table port before after (HostFault (Read p)) = (p ≡ port) × PullKeeps port before after × IsBrokenOff port before after
 VolumeFails table port before after (Refused (TooLong p)) = (p ≡ port) × PullKeeps port before after × IsTooLong port before after × ((after port).pulls ≡ (before port).pulls)
 VolumeFails table port before after (Refused (Volume p offset code)) = (p ≡ port) × IsNoVolume table port before after offset code
 VolumeFails table port before after _ = ⊥

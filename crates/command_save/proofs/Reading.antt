@@ -2,14 +2,14 @@
 use Rattle.std.proofs.Common.{◌≡◌, ℕ, ◌+◌, ◌<◌, inr, List, Some, length, drop, refl, sym, ap, subst, ◌∙◌, arith}
 use Rattle.class_model.specs.Config.{SegRecord}
 use Rattle.config_text.specs.declared.config.Config.{Config as ConfigText}
-use Rattle.host_ports.specs.Ports.{Port, Rose, PullKeeps}
+use Rattle.host_ports.specs.Ports.{Port, PullKeeps}
 use Rattle.volume_image.specs.Volumes.{Spells as SpellsVolume, IsFault as IsVolumeFault}
 use Rattle.volume_image.specs.Written.{written}
 use Rattle.command_input.specs.declared.status.Status.{Status}
 use Rattle.command_input.specs.declared.status.Status.TheVariants.{Refused, HostFault, NoMemory}
 use Rattle.command_input.specs.declared.status.Refusal.TheVariants.{Volume, TooLong}
 use Rattle.command_input.specs.declared.status.PortFault.TheVariants.{Read}
-use Rattle.command_input.specs.Input.{Ports, IfTold, NothingPushed, NoneFailed, ConfigHad, limit}
+use Rattle.command_input.specs.Input.{Ports, IfTold, NothingPushed, NoneFailed, BrokeOff, ConfigHad, limit}
 use Rattle.command_input.specs.Reading.{VolumeReads, VolumeFails}
 use Rattle.command_input.proofs.Failures.{none_on, none_pull, pull_none, pull_one}
 use Rattle.command_input.proofs.Reading.{silent_pull, silent_on, told_as, told_of, whole_as}
@@ -46,10 +46,10 @@ module _ (before middle after : Ports) (k : ConfigText) (had : ConfigHad before 
     ports = record { silence = silent before middle after k had f.0; faults = none_on before middle after (none before middle after k had f.0) (pull_none 1 middle after f.0 f.1); unread = tt };
   }
   no_volume (HostFault (Read p)) f = subst (λ q. ImageFails before after (HostFault (Read q))) (sym f.0) (record {
-    cause = (inr (refl, (k, config_read before middle after k had f.1)), subst (λ (x : Port). Rose x.pulls (after 1).pulls) (same before middle after k had f.1) f.2);
+    cause = (inr (refl, (k, config_read before middle after k had f.1)), subst (λ (x : Port). BrokeOff (limit 1) x (after 1)) (same before middle after k had f.1) f.2);
     silent = silent before middle after k had f.1;
     others = others before middle after k had f.1;
-    ports = record { silence = silent before middle after k had f.1; faults = none_pull 1 before middle after (none before middle after k had f.1) (pull_one 1 middle after f.1 f.2); unread = behind before middle after k had f.1 };
+    ports = record { silence = silent before middle after k had f.1; faults = none_pull 1 before middle after (none before middle after k had f.1) (pull_one 1 middle after f.1 f.2.rose); unread = behind before middle after k had f.1 };
   })
   no_volume (Refused (TooLong p)) f = subst (λ q. ImageFails before after (Refused (TooLong q))) (sym f.0) (record {
     cause = (

@@ -5,10 +5,9 @@ use Rattle.command_input.specs.declared.status.Status.{Status}
 use Rattle.command_input.specs.declared.status.Status.TheVariants.{Refused, HostFault, NoMemory}
 use Rattle.command_input.specs.declared.status.Refusal.TheVariants.{Config, Volume, TooLong}
 use Rattle.command_input.specs.declared.status.PortFault.TheVariants.{Read}
-use Rattle.command_input.specs.Input.{Ports, IfTold, IsTooLong, IsReadWhole, IsUnpushed}
+use Rattle.command_input.specs.Input.{Ports, IfTold, IsBrokenOff, IsTooLong, IsReadWhole, IsUnpushed}
 use Rattle.config_text.specs.declared.config.Config.{Config as ConfigText}
 use Rattle.config_text.specs.Text.{Spells, IsFault}
-use Rattle.host_ports.specs.Ports.{Rose}
 use Rattle.volume_image.specs.Volumes.{Spells as SpellsVolume, IsFault as IsVolumeFault}
 
 -- Port 0 was read whole, and the bytes that it had left spell this configuration.
@@ -36,7 +35,7 @@ IsTurnOf port before after = (port ≡ 0) ⊎ ((port ≡ 1) × SomeConfigRead be
 -- bytes.
 abbrev pub VolumeCause : Ports → Ports → Status → Type 0
 -- it was this port's turn, and a pull of it failed
-VolumeCause before after (HostFault (Read port)) = IsTurnOf port before after × Rose (before port).pulls (after port).pulls
+VolumeCause before after (HostFault (Read port)) = IsTurnOf port before after × IsBrokenOff port before after
 -- it was this port's turn, and it has more bytes left than its limit
 VolumeCause before after (Refused (TooLong port)) = IsTurnOf port before after × IsTooLong port before after
 -- port 0 was read, and its bytes spell no configuration: this is their first fault
