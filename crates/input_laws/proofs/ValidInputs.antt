@@ -181,7 +181,7 @@ module _ (wanted : Option ℕ) (before after : Ports) (k : ConfigText) (vs : Vol
 
   -- so no other answer has its cause
   only_memory : (status : Status) → NoneRose before after → InputCause wanted before after status → status ≡ NoMemory
-  only_memory (HostFault (Read port)) none cause = absurd (none.pulls port cause.1)
+  only_memory (HostFault (Read port)) none cause = absurd (none.pulls port cause.1.rose)
   only_memory (Refused (TooLong port)) none cause = absurd (turn_is_short port cause.0 cause.1)
   only_memory (Refused (Config line code)) none cause = absurd (config_right before k line code valid.config cause.1)
   only_memory (Refused (Class given classes)) none cause =
@@ -211,7 +211,7 @@ has_one_input wanted other before k l vs ws valid that = valid_input wanted befo
 -- ---- a configuration by itself
 
 pub config_memory : (before after : Ports) (k : ConfigText) (status : Status) → HasConfig before k → NoneRose before after → ConfigCause before after status → status ≡ NoMemory
-config_memory before after k (HostFault (Read port)) has none cause = absurd (none.pulls 0 cause.1)
+config_memory before after k (HostFault (Read port)) has none cause = absurd (none.pulls 0 cause.1.rose)
 config_memory before after k (Refused (TooLong port)) has none cause = absurd (not_too_long 0 before after (λ bytes. Spells bytes k) has cause.1)
 config_memory before after k (Refused (Config line code)) has none cause = absurd (config_right before k line code has cause.1)
 config_memory before after k NoMemory has none cause = refl

@@ -148,7 +148,7 @@ module _ (before after : Ports) where
     guard_cause : (status : Status) → GuardCause before after status → IsDone ((after 1).taken ≡ with_bytes (before 1).taken (written k.table (guard k v))) status
     guard_cause Done o = guard_done o.0 o.1 (guard_input o.0 o.1 o.2) o.4
     guard_cause NoMemory o = tt
-    guard_cause (HostFault (Read port)) o = absurd (none.pulls port o.1)
+    guard_cause (HostFault (Read port)) o = absurd (none.pulls port o.1.rose)
     guard_cause (HostFault (Write port)) o = absurd (none.pushes 1 o.1.4)
     guard_cause (Refused (TooLong port)) o = absurd (turn_is_short port o.0 o.1)
     guard_cause (Refused (Release line code)) o = absurd (release_right line code o)
@@ -218,7 +218,7 @@ module _ {D : Type 0} (d : Sight D) (before after : Ports) (old new : D) where
 
       save_cause : (status : Status) → NoneRose before after → VolumeCause before after status → status ≡ NoMemory
       save_cause NoMemory none o = refl
-      save_cause (HostFault (Read port)) none o = absurd (none.pulls port o.1)
+      save_cause (HostFault (Read port)) none o = absurd (none.pulls port o.1.rose)
       save_cause (Refused (TooLong port)) none o = absurd (save_turn port o.0 o.1)
       save_cause (Refused (Config line code)) none o = absurd (config_right before k line code has o.1)
       save_cause (Refused (Volume port offset code)) none o =
