@@ -1,5 +1,5 @@
 -- What an answer shows of what the words ask for.
-use Rattle.std.proofs.Common.{◌≡◌, ◌⊎◌, ℕ, List, Some, Result, Ok, Err, inl, inr, refl, sym, ap, subst, ◌∙◌}
+use Rattle.std.proofs.Common.{◌≡◌, ◌⊎◌, ℕ, List, Some, Result, Ok, Err, inl, inr, refl, sym, subst}
 use Rattle.text_lines.specs.Faults.{first_code}
 use Rattle.command_words.specs.declared.asked.Plan.{Plan}
 use Rattle.command_words.specs.declared.asked.Plan.TheVariants.{Sim, Run, Show, View, Large, Audit, Guard, Save, Restore}
@@ -9,7 +9,7 @@ use Rattle.command_input.specs.declared.status.Status.{Status}
 use Rattle.command_input.specs.declared.status.Status.TheVariants.{Usage}
 use Rattle.command_input.specs.Input.{Ports, Untouched}
 use Rattle.command_save.specs.Disks.{Sight}
-use Rattle.kernel_top.specs.Answer.{AskForOwn, UsageShows, NotCarriedOut, SimMainShows, KernelMainShows, StoreMainShows, NeedsEither, NeedsDisk, IsNone}
+use Rattle.kernel_top.specs.Answer.{UsageShows, NotCarriedOut, SimMainShows, KernelMainShows, StoreMainShows, NeedsEither, NeedsDisk, IsNone}
 
 -- of two plans that are one answer
 pub one_plan : (p q : Plan) → (let answer : Result Plan PlanError = Ok p in answer ≡ Ok q) → p ≡ q

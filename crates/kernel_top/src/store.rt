@@ -5,6 +5,7 @@ ghost use Rattle.command_input.specs.Answer.{PortsShow};
 ghost use Rattle.command_save.specs.Disks.{sight};
 ghost use Rattle.command_words.specs.Words.{Accepts};
 ghost use Rattle.kernel_top.specs.Answer.{UsageShows, StoreMainShows, IsNone};
+ghost use Rattle.kernel_top.specs.Complete.{StoreCompletes, StoreMainCompletes};
 ghost use Rattle.kernel_top.specs.Store as spec;
 ghost use Rattle.kernel_top.specs.Store.{AsksStore, IsStoreUsage, StoreUsageShows, StoreShows, SaveAnswers, RestoreAnswers};
 
@@ -90,6 +91,8 @@ pub fn save_main<H: Host, D: Disk>(
     ensures save { AsksStore (map (λ w. w.now) words.now) StoreCommand.Save → SaveAnswers (sight D.honest D.seen D.may_leave D.moment D.left_since D.faults) (H.ports host.old) (H.ports host.new) disk.old disk.new result }
     // By `restore`: the volume that was kept before the call.
     ensures restore { AsksStore (map (λ w. w.now) words.now) StoreCommand.Restore → RestoreAnswers (sight D.honest D.seen D.may_leave D.moment D.left_since D.faults) (H.ports host.old) (H.ports host.new) disk.old disk.new result }
+    // By either: a volume is kept or pushed whole, unless a count rises, the disk has no image or memory runs out.
+    ensures complete { (command : StoreCommand) → AsksStore (map (λ w. w.now) words.now) command → StoreCompletes (sight D.honest D.seen D.may_leave D.moment D.left_since D.faults) command (H.ports host.old) (H.ports host.new) disk.old disk.new result }
     // By any words: where nothing is pushed, which calls of the host failed, and which ports weren't touched.
     ensures ports { PortsShow (H.ports host.old) (H.ports host.new) result }
     // By any words an honest disk stays honest, and the count of its failed calls doesn't fall.
@@ -135,6 +138,9 @@ pub fn store_main<R: Threads + Sync, H: Host, P: Pace + Sync, D: Disk>(
     ensures usage { UsageShows IsNone (map (λ w. w.now) words.now) (H.ports host.old) (H.ports host.new) result }
     // By any accepted words: what `save` and `restore` show, and of any other what `kernel_main` shows, with the disk as it was.
     ensures shows { (p : Plan) → Accepts (map (λ w. w.now) words.now) p → StoreMainShows (sight D.honest D.seen D.may_leave D.moment D.left_since D.faults) p (H.ports host.old) (H.ports host.new) disk.old disk.new result }
+    // By any accepted words: a valid input is answered by Done or Unfinished with all that is due, unless a count rises, the disk
+    // has no image or memory runs out.
+    ensures complete { (p : Plan) → Accepts (map (λ w. w.now) words.now) p → StoreMainCompletes (sight D.honest D.seen D.may_leave D.moment D.left_since D.faults) p (H.ports host.old) (H.ports host.new) disk.old disk.new result }
     // By any words: where nothing is pushed, which calls of the host failed, and which ports weren't touched.
     ensures ports { PortsShow (H.ports host.old) (H.ports host.new) result }
 {

@@ -6,6 +6,7 @@ ghost use Rattle.command_run.specs.Shows.{RunShows};
 ghost use Rattle.command_threads.specs.Orders.{IsRoundOrder};
 ghost use Rattle.command_words.specs.Words.{Accepts};
 ghost use Rattle.kernel_top.specs.Answer.{UsageShows, KernelMainShows, NeedsDisk};
+ghost use Rattle.kernel_top.specs.Complete.{KernelMainCompletes};
 
 use crate::plans::{carry_out, fault_kind};
 use command_input::Status;
@@ -49,6 +50,9 @@ pub fn kernel_main<R: Threads + Sync, H: Host, P: Pace + Sync>(
     ensures headline { Accepts (map (λ w. w.now) words.now) Plan.Run → RunShows IsRoundOrder (H.ports host.old) (H.ports host.new) result }
     // By any accepted words: what `run` shows, and of any other what `sim_main` shows.
     ensures shows { (p : Plan) → Accepts (map (λ w. w.now) words.now) p → KernelMainShows p (H.ports host.old) (H.ports host.new) result }
+    // By any accepted words: a valid input is answered by Done or Unfinished with its whole report, unless a count of the host
+    // rises or memory runs out.
+    ensures complete { (p : Plan) → Accepts (map (λ w. w.now) words.now) p → KernelMainCompletes p (H.ports host.old) (H.ports host.new) result }
     // By any words: where nothing is pushed, which calls failed, and which ports weren't touched.
     ensures ports { PortsShow (H.ports host.old) (H.ports host.new) result }
 {

@@ -9,6 +9,7 @@ ghost use Rattle.command_run.specs.Shows.{RunShows, ShowShows, IsSchedule};
 ghost use Rattle.command_view.specs.Viewed.{ViewShows};
 ghost use Rattle.command_words.specs.Words.{Accepts};
 ghost use Rattle.kernel_top.specs.Answer.{UsageShows, NeedsEither};
+ghost use Rattle.kernel_top.specs.Complete.{SimMainCompletes};
 
 use crate::plans::{carry_out, fault_kind};
 use command_input::Status;
@@ -44,6 +45,9 @@ pub fn sim_main<H: Host>(alloc: Global, words: &[&str], host: &mut H) -> Status
     ensures audit { (class : ℕ) → Accepts (map (λ w. w.now) words.now) (Plan.Audit class) → AuditShows class (H.ports host.old) (H.ports host.new) result }
     // By `guard`: the volume after the releases and the export, which nothing else flows into.
     ensures guard { Accepts (map (λ w. w.now) words.now) Plan.Guard → GuardShows (H.ports host.old) (H.ports host.new) result }
+    // By any accepted words: a valid input is answered by Done or Unfinished with its whole report, unless a count of the host
+    // rises or memory runs out.
+    ensures complete { (p : Plan) → Accepts (map (λ w. w.now) words.now) p → SimMainCompletes p (H.ports host.old) (H.ports host.new) result }
     // By any words: where nothing is pushed, which calls failed, and which ports weren't touched.
     ensures ports { PortsShow (H.ports host.old) (H.ports host.new) result }
 {

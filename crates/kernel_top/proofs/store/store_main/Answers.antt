@@ -2,6 +2,7 @@ use Rattle.std.proofs.Common.{refl, ap, Err}
 use Rattle.text_lines.specs.Lines.{views}
 use Rattle.kernel_top.specs.Answer.{IsNone}
 use Rattle.kernel_top.proofs.Answers.{usage, store_answered, faulty, one_plan, no_plan, as_asked_any}
+use Rattle.kernel_top.proofs.Completing.{any_completes}
 use Rattle.kernel_top.proofs.store.store_main.Goals as goal
 
 pub returns-in-Ok-clause-usage : goal.returns-in-Ok-clause-usage
@@ -15,3 +16,9 @@ returns-in-Err-clause-usage g c = faulty IsNone (views c.args.words.now) _ _ c.f
 
 pub returns-in-Err-clause-shows : goal.returns-in-Err-clause-shows
 returns-in-Err-clause-shows g c = λ q h. absurd (no_plan _ q ((c.in-Err.ensures.accepts q).1 h))
+
+pub returns-in-Ok-clause-complete : goal.returns-in-Ok-clause-complete
+returns-in-Ok-clause-complete g c = λ q h. any_completes _ _ _ _ _ q _ (as_asked_any _ c.in-Ok.plan q _ _ _ _ _ (one_plan c.in-Ok.plan q ((c.in-Ok.ensures.accepts q).1 h)) c.carry_out_any.ensures.shows) c.carry_out_any.ensures.ports
+
+pub returns-in-Err-clause-complete : goal.returns-in-Err-clause-complete
+returns-in-Err-clause-complete g c = λ q h. absurd (no_plan _ q ((c.in-Err.ensures.accepts q).1 h))

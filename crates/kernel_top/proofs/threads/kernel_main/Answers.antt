@@ -3,6 +3,7 @@ use Rattle.text_lines.specs.Lines.{views}
 use Rattle.command_words.specs.declared.asked.Plan.TheVariants.{Run}
 use Rattle.kernel_top.specs.Answer.{NeedsDisk}
 use Rattle.kernel_top.proofs.Answers.{usage, kernel_answered, faulty, one_plan, no_plan, as_asked_threaded}
+use Rattle.kernel_top.proofs.Completing.{kernel_completes}
 use Rattle.kernel_top.proofs.threads.kernel_main.Goals as goal
 
 pub returns-in-Ok-clause-usage : goal.returns-in-Ok-clause-usage
@@ -22,3 +23,9 @@ returns-in-Ok-clause-headline g c = λ h. as_asked_threaded c.in-Ok.plan Run _ _
 
 pub returns-in-Err-clause-headline : goal.returns-in-Err-clause-headline
 returns-in-Err-clause-headline g c = λ h. absurd (no_plan _ Run ((c.in-Err.ensures.accepts Run).1 h))
+
+pub returns-in-Ok-clause-complete : goal.returns-in-Ok-clause-complete
+returns-in-Ok-clause-complete g c = λ q h. kernel_completes _ _ q _ (as_asked_threaded c.in-Ok.plan q _ _ _ (one_plan c.in-Ok.plan q ((c.in-Ok.ensures.accepts q).1 h)) c.carry_out_threaded.ensures.shows)
+
+pub returns-in-Err-clause-complete : goal.returns-in-Err-clause-complete
+returns-in-Err-clause-complete g c = λ q h. absurd (no_plan _ q ((c.in-Err.ensures.accepts q).1 h))

@@ -1,8 +1,9 @@
-use Rattle.std.proofs.Common.{refl, inl, ap, Err}
+use Rattle.std.proofs.Common.{refl, ap, Err}
 use Rattle.text_lines.specs.Lines.{views}
 use Rattle.command_words.specs.declared.asked.Plan.TheVariants.{Sim, Show, View, Large, Audit, Guard}
 use Rattle.kernel_top.specs.Answer.{NeedsEither}
 use Rattle.kernel_top.proofs.Answers.{usage, sim_answered, faulty, one_plan, no_plan, as_asked}
+use Rattle.kernel_top.proofs.Completing.{sim_completes}
 use Rattle.kernel_top.proofs.top.sim_main.Goals as goal
 
 pub returns-in-Ok-clause-usage : goal.returns-in-Ok-clause-usage
@@ -46,3 +47,9 @@ returns-in-Ok-clause-guard g c = λ h. as_asked c.in-Ok.plan Guard _ _ _ (one_pl
 
 pub returns-in-Err-clause-guard : goal.returns-in-Err-clause-guard
 returns-in-Err-clause-guard g c = λ h. absurd (no_plan _ Guard ((c.in-Err.ensures.accepts Guard).1 h))
+
+pub returns-in-Ok-clause-complete : goal.returns-in-Ok-clause-complete
+returns-in-Ok-clause-complete g c = λ q h. sim_completes _ _ q _ (as_asked c.in-Ok.plan q _ _ _ (one_plan c.in-Ok.plan q ((c.in-Ok.ensures.accepts q).1 h)) c.carry_out.ensures.shows)
+
+pub returns-in-Err-clause-complete : goal.returns-in-Err-clause-complete
+returns-in-Err-clause-complete g c = λ q h. absurd (no_plan _ q ((c.in-Err.ensures.accepts q).1 h))
