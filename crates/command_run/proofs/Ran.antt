@@ -14,6 +14,8 @@ use Rattle.loader.specs.declared.loading.LoadError.TheVariants as error
 use Rattle.loader.specs.Records.{Volumes, Loads, IsLoadFault, named_by}
 use Rattle.loader.specs.Refusals.{IsRefusedRightly}
 use Rattle.report.specs.Printing.{Pushed, Torn}
+use Rattle.loader.proofs.Records.{loaded_config}
+use Rattle.whole_runs.proofs.Right.{run_is_right}
 use Rattle.command_input.specs.Answer.{InputFails, PortsShow}
 use Rattle.command_input.specs.Input.{Ports, IsUnpushed, NoneFailed, OnePushFailed, InputHad, loaded}
 use Rattle.command_input.proofs.Failing.{no_load, no_memory}
@@ -75,6 +77,7 @@ module _ (IsOrder : ConfigText → Volumes → List Event → Type 0) (before no
     events = events;
     order = order;
     few = few;
+    right = run_is_right (loaded k vs) events (loaded_config k had.valid vs had.volumes loads) few;
   }
 
   others_stay : Keeps k now after → OthersStay k before after

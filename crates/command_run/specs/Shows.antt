@@ -13,7 +13,9 @@ use Rattle.config_text.specs.Valid.{max_events}
 use Rattle.config_text.specs.Written.{written}
 use Rattle.host_ports.specs.Ports.{SameBut, IsPrefixTaken, with_bytes}
 use Rattle.loader.specs.Records.{Volumes, named_by}
+use Rattle.machine.specs.Opening.{effects}
 use Rattle.schedule.specs.Schedule.{events_of}
+use Rattle.whole_runs.specs.Whole.{RunIsRight}
 use Rattle.words_layout.specs.declared.op.Event.{Event}
 
 -- the order of word steps that the schedule of the configuration gives
@@ -22,7 +24,9 @@ IsSchedule k vs events = events ≡ events_of k
 
 -- ---- what a run shows
 
--- The input of a run, and an order of word steps that it may have. The whole input was read, and no record is at fault.
+-- The input of a run, and an order of word steps that it may have. The whole input was read, and no record is at fault. In the
+-- order of effect each step shows what it must after those before it, and each access is allowed by the labels and brackets that
+-- segments were given.
 pub record RunOf (IsOrder : ConfigText → Volumes → List Event → Type 0) (before after : Ports) : Type 0 where
   pub config : ConfigText
   pub volumes : Volumes
@@ -30,6 +34,7 @@ pub record RunOf (IsOrder : ConfigText → Volumes → List Event → Type 0) (b
   pub events : List Event
   pub order : IsOrder config volumes events
   pub few : length events ≤ max_events
+  pub right : RunIsRight (loaded config volumes) (effects (loaded config volumes) events)
 
 -- what is due to a port: the report to port 0, and to the port of a volume its image after the run
 abbrev pub due : ConfigText → Volumes → List Event → ℕ → List ℕ

@@ -16,10 +16,11 @@ use command_input::{Status, read_input};
 use config_text::Config;
 use host_ports::Host;
 use loader::{LoadError, load_state};
-use machine::{Machine, plain_laws};
+use machine::Machine;
 use schedule::events;
 use std::alloc::Global;
 use volume_image::{Image, Volume};
+use whole_runs::run_whole;
 use words_layout::PlainWords;
 
 /// The machine after all events of the configuration's schedule, or the first record at fault. All memory is taken before the
@@ -37,9 +38,7 @@ fn run_schedule(
 {
     let mut machine = load_state(alloc, config, volumes)?;
     let events = events(alloc, config)?;
-    machine.plain_law();
-    machine.run(events.as_slice());
-    plain_laws();
+    run_whole(&mut machine, events.as_slice());
     Ok(machine)
 }
 
