@@ -1,23 +1,25 @@
-//! The events at or below a class.
+//! A run of the events at or below a class.
 
-ghost use Rattle.std.specs.Prelude.{◌≡◌, ◌<◌, [], ◌∷◌, All};
+ghost use Rattle.std.specs.Prelude.{◌≡◌, ◌<◌, ◌≤◌, All};
 ghost use Rattle.class_model.specs.Config.{classes};
-ghost use Rattle.command_view.specs.LowRuns.{GoesOn};
+ghost use Rattle.low_run.specs.Flags.{is_low, picked};
+ghost use Rattle.low_run.specs.LowRuns.{GoesOn};
 ghost use Rattle.machine.specs.Banks.{machine_of};
 ghost use Rattle.machine.specs.Low.{low_events};
 ghost use Rattle.machine.specs.Machine.{run};
 ghost use Rattle.machine.specs.Steps.{InRange};
 
+use crate::classes::LowClasses;
 use machine::{Machine, plain_laws};
 use words_layout::{Event, PlainWords};
 
-/// Takes the event where its class is at or below this one.
-fn step_low(machine: &mut Machine<PlainWords>, event: Event, class: u8)
+/// Takes the event where its class is one of these.
+fn step_low(machine: &mut Machine<PlainWords>, event: Event, low: &LowClasses)
     requires event { InRange machine.old event }
-    requires class { class < classes machine.old.shared }
-    ensures { GoesOn (low_events machine.old.shared.table class (event ∷ [])) machine.old machine.new }
+    requires class { event.class < 16 }
+    ensures { GoesOn (picked (is_low low.now event.class) event) machine.old machine.new }
 {
-    if machine.shared().table().below(event.class, class) {
+    if low.has(event.class) {
         machine.step(event);
     }
 }
@@ -29,8 +31,10 @@ pub fn run_low(machine: &mut Machine<PlainWords>, events: &[Event], class: u8)
     ensures { machine_of machine.new ≡ run (machine_of machine.old) (low_events machine.old.shared.table class events.now) }
 {
     machine.plain_law();
+    machine.shared().table().table_law();
+    let low = LowClasses::of(machine.shared().table(), class);
     for event in events {
-        step_low(machine, *event, class);
+        step_low(machine, *event, &low);
     }
     plain_laws();
 }

@@ -1,17 +1,13 @@
--- The events at or below a class, one more at a time.
-use Rattle.std.proofs.Common.{◌≡◌, ℕ, true, false, List, [], ◌∷◌, ◌++◌, Option, refl, sym, ap, subst, ◌∙◌, if◌then◌else◌}
+-- Runs of a machine, one after the other.
+use Rattle.std.proofs.Common.{ℕ, List, [], ◌∷◌, ◌++◌, Option, refl, sym, ap, subst, ◌∙◌}
 use Rattle.std.proofs.lemmas.List.{append-nil, append_assoc}
-use Rattle.std.specs.Prelude.{All}
-use Rattle.std.proofs.lemmas.List.Elements.{filter-append, All-filter}
-use Rattle.labels.specs.Label.{ClassEntry, at_or_below}
 use Rattle.words_layout.specs.declared.op.Event.{Event}
 use Rattle.class_model.specs.Process.{ProcName}
 use Rattle.machine.specs.Banks.{State}
-use Rattle.machine.specs.Low.{low_events}
 use Rattle.machine.specs.Plain.{OnWords}
-use Rattle.machine.specs.Steps.{EventBy, RunsBy, InRange, named}
+use Rattle.machine.specs.Steps.{EventBy, RunsBy, named}
 use Rattle.machine.proofs.Events.{same_length}
-use Rattle.command_view.specs.LowRuns.{GoesOn}
+use Rattle.low_run.specs.LowRuns.{GoesOn}
 
 runs_append : (xs ys : List Event) (m n o : State (List ℕ)) (names more : List ProcName) → RunsBy OnWords xs m n names → RunsBy OnWords ys n o more → RunsBy OnWords (xs ++ ys) m o (names ++ more)
 runs_append [] ys m n o names more h g =
@@ -36,19 +32,3 @@ goes_one e m n effect h = record {
   banks = same_length OnWords e m n effect h;
   shared = h.shared;
 }
-
-module _ (table : List ClassEntry) (c : ℕ) (e : Event) where
-  -- an event at or below the class
-  pub low_one : at_or_below table e.class c ≡ true → low_events table c (e ∷ []) ≡ e ∷ []
-  low_one is = ap (λ b. if b then (e ∷ []) else []) is
-
-  -- another one
-  pub low_none : at_or_below table e.class c ≡ false → low_events table c (e ∷ []) ≡ []
-  low_none h = ap (λ b. if b then (e ∷ []) else []) h
-
-pub low_append : (table : List ClassEntry) (c : ℕ) (xs ys : List Event) → low_events table c (xs ++ ys) ≡ low_events table c xs ++ low_events table c ys
-low_append table c xs ys = filter-append (λ (x : Event). at_or_below table x.class c) xs ys
-
--- an event is among those at or below the class only where it is among all
-pub low_in_range : (table : List ClassEntry) (c : ℕ) (m : State (List ℕ)) (events : List Event) → All (λ e. InRange m e) events → All (λ e. InRange m e) (low_events table c events)
-low_in_range table c m events all = All-filter (λ (x : Event). at_or_below table x.class c) (λ e. InRange m e) events all

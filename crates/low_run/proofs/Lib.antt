@@ -1,0 +1,3 @@
+pub mod Flagging
+pub mod Picked
+pub mod Runs
