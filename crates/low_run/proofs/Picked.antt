@@ -5,9 +5,7 @@ use Rattle.std.proofs.lemmas.List.{take_more}
 use Rattle.std.proofs.lemmas.List.Elements.{filter-append, All-filter}
 use Rattle.labels.specs.Label.{ClassEntry, at_or_below}
 use Rattle.words_layout.specs.declared.op.Event.{Event}
-use Rattle.machine.specs.Banks.{State}
 use Rattle.machine.specs.Low.{low_events}
-use Rattle.machine.specs.Steps.{InRange}
 use Rattle.low_run.specs.Flags.{AreLow, is_low, picked}
 
 -- the event at a place
@@ -23,6 +21,6 @@ module _ (table : List ClassEntry) (c : ℕ) where
       ∙ filter-append (λ (x : Event). at_or_below table x.class c) (take i events) (e ∷ [])
       ∙ ap (λ (b : Bool). low_events table c (take i events) ++ picked b e) (sym (low.low e.class range))
 
-  -- an event is among those at or below the class only where it is among all
-  pub low_in_range : (m : State (List ℕ)) (events : List Event) → All (λ e. InRange m e) events → All (λ e. InRange m e) (low_events table c events)
-  low_in_range m events all = All-filter (λ (x : Event). at_or_below table x.class c) (λ e. InRange m e) events all
+  -- what holds of each event holds of each one at or below the class
+  pub low_all : (P : Event → Type 0) (events : List Event) → All P events → All P (low_events table c events)
+  low_all P events all = All-filter (λ (x : Event). at_or_below table x.class c) P events all

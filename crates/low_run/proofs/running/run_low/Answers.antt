@@ -7,7 +7,7 @@ use Rattle.machine.specs.Low.{low_events}
 use Rattle.machine.specs.Steps.{InRange}
 use Rattle.low_run.specs.Flags.{AreLow, is_low, picked}
 use Rattle.low_run.specs.LowRuns.{GoesOn}
-use Rattle.low_run.proofs.Picked.{event_at, low_more, low_in_range}
+use Rattle.low_run.proofs.Picked.{event_at, low_more, low_all}
 use Rattle.low_run.proofs.Runs.{goes_on}
 use Rattle.low_run.proofs.running.run_low.Goals as goal
 
@@ -26,4 +26,4 @@ returns c =
     let table : List ClassEntry = c.args.machine.now.shared.table in
     let all = take_all c.loop-event.event-index c.args.events.now c.loop-event-test.false in
     let ran = subst (λ (events : List Event). GoesOn (low_events table c.args.class events) c.args.machine.now c.loop-event.machine) all c.loop-event.invariant in
-    (c.plain_laws.ensures.run (low_events table c.args.class c.args.events.now) c.args.machine.now c.loop-event.machine ran.runs.0 c.plain_law.ensures (low_in_range table c.args.class c.args.machine.now c.args.events.now c.requires.events) ran.runs.1).0
+    (c.plain_laws.ensures.run (low_events table c.args.class c.args.events.now) c.args.machine.now c.loop-event.machine ran.runs.0 c.plain_law.ensures (low_all table c.args.class (λ e. InRange c.args.machine.now e) c.args.events.now c.requires.events) ran.runs.1).0
