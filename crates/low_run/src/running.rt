@@ -1,13 +1,15 @@
 //! A run of the events at or below a class.
 
-ghost use Rattle.std.specs.Prelude.{◌≡◌, ◌<◌, ◌≤◌, All};
+ghost use Rattle.std.specs.Prelude.{◌≡◌, ◌<◌, ◌≤◌, All, List};
 ghost use Rattle.class_model.specs.Config.{classes};
-ghost use Rattle.low_run.specs.Flags.{is_low, picked};
+ghost use Rattle.class_model.specs.Process.{ProcName};
+ghost use Rattle.low_run.specs.Flags.{is_low, low_of, picked};
 ghost use Rattle.low_run.specs.LowRuns.{GoesOn};
 ghost use Rattle.machine.specs.Banks.{machine_of};
 ghost use Rattle.machine.specs.Low.{low_events};
 ghost use Rattle.machine.specs.Machine.{run};
-ghost use Rattle.machine.specs.Steps.{InRange};
+ghost use Rattle.machine.specs.Plain.{OnWords};
+ghost use Rattle.machine.specs.Steps.{InRange, RunsBy};
 
 use crate::classes::LowClasses;
 use machine::{Machine, plain_laws};
@@ -24,6 +26,30 @@ fn step_low(machine: &mut Machine<PlainWords>, event: Event, low: &LowClasses)
     }
 }
 
+/// Takes the events whose class is one of these, in order.
+fn run_picked(machine: &mut Machine<PlainWords>, events: &[Event], low: &LowClasses)
+    requires events { All (λ e. InRange machine.old e) events.now }
+    requires few { classes machine.old.shared ≤ 16 }
+    ensures { (names : List ProcName) × RunsBy OnWords (low_of low.now events.now) machine.old machine.new names }
+{
+    for event in events {
+        step_low(machine, *event, low);
+    }
+}
+
+/// Likewise. Where all classes are among these, no event is tested.
+fn run_these(machine: &mut Machine<PlainWords>, events: &[Event], low: &LowClasses)
+    requires events { All (λ e. InRange machine.old e) events.now }
+    requires few { classes machine.old.shared ≤ 16 }
+    ensures { (names : List ProcName) × RunsBy OnWords (low_of low.now events.now) machine.old machine.new names }
+{
+    if low.has_first(machine.shared().table().count()) {
+        machine.run(events);
+    } else {
+        run_picked(machine, events, low);
+    }
+}
+
 /// Takes the events whose class is at or below this one, in order, and no other. It takes no memory.
 pub fn run_low(machine: &mut Machine<PlainWords>, events: &[Event], class: u8)
     requires events { All (λ e. InRange machine.old e) events.now }
@@ -33,8 +59,6 @@ pub fn run_low(machine: &mut Machine<PlainWords>, events: &[Event], class: u8)
     machine.plain_law();
     machine.shared().table().table_law();
     let low = LowClasses::of(machine.shared().table(), class);
-    for event in events {
-        step_low(machine, *event, &low);
-    }
+    run_these(machine, events, &low);
     plain_laws();
 }
