@@ -1,4 +1,4 @@
--- The events of classes whose flags stand: one more at a time, all of them, and those at or below a class.
+-- The events of classes whose flags stand: one more at a time, and those at or below a class.
 use Rattle.std.proofs.Common.{◌≡◌, ℕ, ◌+◌, ◌<◌, Bool, List, [], ◌∷◌, ◌++◌, length, take, get_or, refl, ap, ◌∙◌}
 use Rattle.std.specs.Prelude.{if◌then◌else◌}
 use Rattle.std.specs.List.{All, AllByRecursion}
@@ -7,7 +7,7 @@ use Rattle.std.proofs.lemmas.List.Elements.{filter-append, All-filter, recursion
 use Rattle.labels.specs.Label.{ClassEntry, at_or_below}
 use Rattle.words_layout.specs.declared.op.Event.{Event}
 use Rattle.machine.specs.Low.{low_events}
-use Rattle.low_run.specs.Flags.{AllLow, AreLow, is_low, low_of, picked}
+use Rattle.low_run.specs.Flags.{AreLow, is_low, low_of, picked}
 
 -- the event at a place
 abbrev pub event_at : List Event → ℕ → Event
@@ -19,15 +19,6 @@ module _ (flags : List Bool) where
   low_more events i lt =
       let e : Event = event_at events i in
       ap (low_of flags) (take_more events i record { processor = 0; class = 0 } lt) ∙ filter-append (λ (x : Event). is_low flags x.class) (take i events) (e ∷ [])
-
-  -- where the flags of all classes stand, these are all events
-  all_by : (n : ℕ) → AllLow flags n → (events : List Event) → AllByRecursion (λ (e : Event). e.class < n) events → low_of flags events ≡ events
-  all_by n all [] h = refl
-  all_by n all (e ∷ es) h =
-      ap (λ (b : Bool). if b then e ∷ low_of flags es else low_of flags es) (all e.class h.0) ∙ ap (λ (xs : List Event). e ∷ xs) (all_by n all es h.1)
-
-  pub all_low : (n : ℕ) → AllLow flags n → (events : List Event) → All (λ (e : Event). e.class < n) events → low_of flags events ≡ events
-  all_low n all events h = all_by n all events (recursion_from_All (λ (e : Event). e.class < n) events h)
 
 module _ (table : List ClassEntry) (c : ℕ) where
   module _ (flags : List Bool) (low : AreLow table c flags) where

@@ -1,5 +1,5 @@
 -- The classes at or below a class, as a list of flags.
-use Rattle.std.specs.Prelude.{◌≡◌, ◌<◌, ◌≤◌, ℕ, Bool, true, false, List, [], ◌∷◌, length, slice_index_or, if◌then◌else◌}
+use Rattle.std.specs.Prelude.{◌≡◌, ◌<◌, ◌≤◌, ℕ, Bool, false, List, [], ◌∷◌, length, slice_index_or, if◌then◌else◌}
 use Rattle.std.specs.List.{filter}
 use Rattle.labels.specs.Label.{ClassEntry, at_or_below}
 use Rattle.words_layout.specs.declared.op.Event.{Event}
@@ -16,10 +16,6 @@ pub record AreLow (table : List ClassEntry) (class : ℕ) (flags : List Bool) : 
 -- the events of classes whose flags stand, in order
 abbrev pub low_of : List Bool → List Event → List Event
 low_of flags events = filter (λ (e : Event). is_low flags e.class) events
-
--- the flags of the first n classes stand
-abbrev pub AllLow : List Bool → ℕ → Type 0
-AllLow flags n = (c : ℕ) → c < n → is_low flags c ≡ true
 
 -- the event, where it is picked
 abbrev pub picked : Bool → Event → List Event

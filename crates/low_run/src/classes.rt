@@ -1,7 +1,7 @@
 //! The classes at or below a class.
 
-ghost use Rattle.std.specs.Prelude.{◌≡◌, ◌↔◌, ◌<◌, ◌≤◌, IsTrue, length};
-ghost use Rattle.low_run.specs.Flags.{AllLow, AreLow, is_low};
+ghost use Rattle.std.specs.Prelude.{◌≡◌, ◌<◌, length};
+ghost use Rattle.low_run.specs.Flags.{AreLow, is_low};
 
 use labels::{ClassTable, MAX_CLASSES};
 use std::marker::Model;
@@ -43,18 +43,5 @@ impl LowClasses {
         ensures { result ≡ is_low self.now class }
     {
         self.flags[class as usize]
-    }
-
-    /// Whether each of so many classes, from class 0 on, is among them.
-    pub fn has_first(&self, count: u8) -> bool
-        requires { count ≤ 16 }
-        ensures { IsTrue result ↔ AllLow self.now count }
-    {
-        for class in 0..count {
-            if !self.has(class) {
-                return false;
-            }
-        }
-        true
     }
 }

@@ -1,10 +1,10 @@
 //! A run of the events at or below a class.
 
-ghost use Rattle.std.specs.Prelude.{◌≡◌, ◌<◌, ◌≤◌, All, List};
+ghost use Rattle.std.specs.Prelude.{◌≡◌, ◌↔◌, ◌<◌, ◌≤◌, All, IsTrue, List};
 ghost use Rattle.class_model.specs.Config.{classes};
 ghost use Rattle.class_model.specs.Process.{ProcName};
 ghost use Rattle.low_run.specs.Flags.{is_low, low_of, picked};
-ghost use Rattle.low_run.specs.LowRuns.{GoesOn};
+ghost use Rattle.low_run.specs.LowRuns.{GoesOn, OthersEnded};
 ghost use Rattle.machine.specs.Banks.{machine_of};
 ghost use Rattle.machine.specs.Low.{low_events};
 ghost use Rattle.machine.specs.Machine.{run};
@@ -37,13 +37,26 @@ fn run_picked(machine: &mut Machine<PlainWords>, events: &[Event], low: &LowClas
     }
 }
 
-/// Likewise. Where all classes are among these, no event is tested.
+/// Whether no process is live of a class that isn't one of these.
+fn others_ended(machine: &Machine<PlainWords>, low: &LowClasses) -> bool
+    requires { classes machine.now.shared ≤ 16 }
+    ensures { IsTrue result ↔ OthersEnded low.now machine.now }
+{
+    for class in 0..machine.shared().table().count() {
+        if !low.has(class) && !machine.ended(class) {
+            return false;
+        }
+    }
+    true
+}
+
+/// Likewise. Where no process of another class is live, no event is tested, since those of other classes do nothing then.
 fn run_these(machine: &mut Machine<PlainWords>, events: &[Event], low: &LowClasses)
     requires events { All (λ e. InRange machine.old e) events.now }
     requires few { classes machine.old.shared ≤ 16 }
     ensures { (names : List ProcName) × RunsBy OnWords (low_of low.now events.now) machine.old machine.new names }
 {
-    if low.has_first(machine.shared().table().count()) {
+    if others_ended(machine, low) {
         machine.run(events);
     } else {
         run_picked(machine, events, low);
