@@ -1,18 +1,20 @@
 //! The command `audit`.
 
-ghost use Rattle.std.specs.Prelude.{◌≡◌, true};
+ghost use Rattle.std.specs.Prelude.{◌≡◌};
 ghost use Rattle.std.specs.List.{AllByRecursion};
 ghost use Rattle.audit_trail.specs.Lines.{HasLine};
-ghost use Rattle.command_audit.specs.Audited.{AuditShows, PrintsTrail, low_allowed};
+ghost use Rattle.command_audit.specs.Audited.{AuditShows, IsAllowed, trail_due};
 ghost use Rattle.command_input.specs.Answer.{PortsShow};
 ghost use Rattle.command_input.specs.Input.{loaded};
+ghost use Rattle.low_answer.specs.LowShows.{LowPrints};
 ghost use Rattle.low_trail.specs.LowTrail.{low_trail, low_machine};
 ghost use Rattle.machine.specs.Banks.{machine_of};
 ghost use Rattle.schedule.specs.Schedule.{events_of};
 
-use command_input::{Input, PortFault, Status, read_input};
-use command_run::{load_answer, some_live};
+use command_input::{Input, Status, read_input};
+use command_run::load_answer;
 use host_ports::Host;
+use low_answer::answer_after;
 use low_trail::{LowTrail, push_lines, trail_of_low};
 use std::alloc::Global;
 
@@ -20,18 +22,12 @@ use std::alloc::Global;
 fn print_trail<H: Host>(host: &mut H, input: &Input, trail: &LowTrail, class: u8) -> Status
     requires trail { trail.now.entries.items ≡ low_trail class (loaded input.now.config input.now.volumes.items) (events_of input.now.config) }
     requires lines { AllByRecursion HasLine trail.now.entries.items }
-    requires allowed { low_allowed class input.now.config input.now.volumes.items ≡ true }
+    requires allowed { IsAllowed class input.now.config input.now.volumes.items }
     requires machine { machine_of trail.now.machine ≡ low_machine class (loaded input.now.config input.now.volumes.items) (events_of input.now.config) }
-    ensures { PrintsTrail class input.now.config input.now.volumes.items (H.ports host.old) (H.ports host.new) result }
+    ensures { LowPrints trail_due IsAllowed class input.now.config input.now.volumes.items (H.ports host.old) (H.ports host.new) result }
 {
-    match push_lines(host, trail.entries.as_slice()) {
-        Ok(()) => {}
-        Err(_) => return Status::HostFault(PortFault::Write { port: 0 }),
-    }
-    if some_live(&trail.machine) {
-        return Status::Unfinished;
-    }
-    Status::Done
+    let printed = push_lines(host, trail.entries.as_slice());
+    answer_after(printed, &trail.machine)
 }
 
 /// Runs what is at or below the class of the configuration at port 0, with the volumes at the ports that it names, by the events of

@@ -1,2 +1,1 @@
-pub mod LowRuns
 pub mod Viewed

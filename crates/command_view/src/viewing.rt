@@ -4,22 +4,24 @@ ghost use Rattle.std.specs.Prelude.{◌≡◌, ◌<◌, ◌≤◌, IfOk, length}
 ghost use Rattle.class_model.specs.Config.{low_config};
 ghost use Rattle.command_input.specs.Answer.{PortsShow};
 ghost use Rattle.command_input.specs.Input.{loaded};
-ghost use Rattle.command_view.specs.Viewed.{ViewShows, PrintsView};
+ghost use Rattle.command_view.specs.Viewed.{IsMachineSection, ViewShows, section_due};
 ghost use Rattle.config_text.specs.Valid.{IsValid, max_events};
 ghost use Rattle.loader.specs.Records.{AreVolumes, Loads};
 ghost use Rattle.loader.specs.Refusals.{IsRefusedRightly};
+ghost use Rattle.low_answer.specs.LowShows.{LowPrints};
 ghost use Rattle.machine.specs.Banks.{machine_of};
 ghost use Rattle.machine.specs.Low.{low_events};
 ghost use Rattle.machine.specs.Opening.{machine as machine_after};
 ghost use Rattle.schedule.specs.Schedule.{events_of};
 
-use crate::low_run::run_low;
-use command_input::{Input, PortFault, Status, read_input};
-use command_run::{load_answer, some_live};
+use command_input::{Input, Status, read_input};
+use command_run::load_answer;
 use config_text::Config;
 use effect_laws::section_laws;
 use host_ports::Host;
 use loader::{LoadError, load_state_low, volumes_law};
+use low_answer::answer_after;
+use low_run::run_low;
 use machine::Machine;
 use report::section;
 use report_laws::shown_laws;
@@ -63,19 +65,13 @@ fn print_view<H: Host>(
     requires class { class < length input.now.config.table }
     requires machine { machine_of machine.now ≡ machine_after (low_config class (loaded input.now.config input.now.volumes.items)) (low_events input.now.config.table class (events_of input.now.config)) }
     requires few { length (events_of input.now.config) ≤ max_events }
-    ensures { PrintsView class input.now.config input.now.volumes.items (H.ports host.old) (H.ports host.new) result }
+    ensures { LowPrints section_due IsMachineSection class input.now.config input.now.volumes.items (H.ports host.old) (H.ports host.new) result }
 {
     section_laws();
     shown_laws();
     volumes_law();
-    match section(host, machine, class) {
-        Ok(()) => {}
-        Err(_) => return Status::HostFault(PortFault::Write { port: 0 }),
-    }
-    if some_live(machine) {
-        return Status::Unfinished;
-    }
-    Status::Done
+    let printed = section(host, machine, class);
+    answer_after(printed, machine)
 }
 
 /// Runs what is at or below the class of the configuration at port 0, with the volumes at the ports that it names, by the events of

@@ -68,20 +68,20 @@ module _ (before after : Ports) where
 
   view_completes : (class : ℕ) (status : Status) → ViewShows class before after status → ViewCompletes class before after status
   view_completes class Done o k vs valid none =
-      let same = reads_the_input (Some class) before after k o.view.config vs o.view.volumes valid o.view.input.reads in
+      let same = reads_the_input (Some class) before after k o.of.config vs o.of.volumes valid o.of.input.reads in
       record { viewed = o; config = same.0; volumes = same.1 }
   view_completes class Unfinished o k vs valid none =
-      let same = reads_the_input (Some class) before after k o.view.config vs o.view.volumes valid o.view.input.reads in
+      let same = reads_the_input (Some class) before after k o.of.config vs o.of.volumes valid o.of.input.reads in
       record { viewed = o; config = same.0; volumes = same.1 }
   view_completes class (HostFault (Write port)) o k vs valid none = absurd (none.pushes 0 o.one.rose)
   view_completes class other o k vs valid none = memory_completes (ViewedOn class k vs before after) other (valid_input_is_read (Some class) before after k vs other valid none o)
 
   audit_completes : (class : ℕ) (status : Status) → AuditShows class before after status → AuditCompletes class before after status
   audit_completes class Done o k vs valid none =
-      let same = reads_the_input (Some class) before after k o.audit.config vs o.audit.volumes valid o.audit.input.reads in
+      let same = reads_the_input (Some class) before after k o.of.config vs o.of.volumes valid o.of.input.reads in
       record { audited = o; config = same.0; volumes = same.1 }
   audit_completes class Unfinished o k vs valid none =
-      let same = reads_the_input (Some class) before after k o.audit.config vs o.audit.volumes valid o.audit.input.reads in
+      let same = reads_the_input (Some class) before after k o.of.config vs o.of.volumes valid o.of.input.reads in
       record { audited = o; config = same.0; volumes = same.1 }
   audit_completes class (HostFault (Write port)) o k vs valid none = absurd (none.pushes 0 o.one.rose)
   audit_completes class other o k vs valid none = memory_completes (AuditedOn class k vs before after) other (valid_input_is_read (Some class) before after k vs other valid none o)

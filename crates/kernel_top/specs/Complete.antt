@@ -57,8 +57,8 @@ RunCompletes IsOrder before after status = (k : ConfigText) (vs : Volumes) → I
 -- The section of the class in this input was printed whole.
 pub record ViewedOn (class : ℕ) (k : ConfigText) (vs : Volumes) (before after : Ports) (live : Bool) : Type 0 where
   pub viewed : Viewed class live before after
-  pub config : viewed.view.config ≡ k
-  pub volumes : viewed.view.volumes ≡ vs
+  pub config : viewed.of.config ≡ k
+  pub volumes : viewed.of.volumes ≡ vs
 
 -- The class is one of the input's classes.
 abbrev pub ViewCompletes : ℕ → Ports → Ports → Status → Type 0
@@ -67,8 +67,8 @@ ViewCompletes class before after status = (k : ConfigText) (vs : Volumes) → Is
 -- The trail of the class in this input was printed whole.
 pub record AuditedOn (class : ℕ) (k : ConfigText) (vs : Volumes) (before after : Ports) (live : Bool) : Type 0 where
   pub audited : Audited class live before after
-  pub config : audited.audit.config ≡ k
-  pub volumes : audited.audit.volumes ≡ vs
+  pub config : audited.of.config ≡ k
+  pub volumes : audited.of.volumes ≡ vs
 
 abbrev pub AuditCompletes : ℕ → Ports → Ports → Status → Type 0
 AuditCompletes class before after status = (k : ConfigText) (vs : Volumes) → IsValidInput (Some class) before k vs → NoneRose before after → IsComplete (AuditedOn class k vs before after) status

@@ -1,3 +1,2 @@
-pub mod LowEvents
 pub mod Lines
 pub mod Ranges

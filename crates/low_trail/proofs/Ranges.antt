@@ -1,20 +1,14 @@
 -- The events of a schedule are in range of its machine, and so are the names of the order of effect.
 use Rattle.std.proofs.Common.{◌≡◌, ℕ, ◌<◌, List, [], ◌∷◌, ◌++◌, length, map, sym, subst}
 use Rattle.std.specs.List.{All, AllByRecursion}
-use Rattle.std.proofs.lemmas.List.Elements.{All-filter, All-from_recursion, recursion_from_All}
-use Rattle.labels.specs.Label.{ClassEntry, at_or_below}
+use Rattle.std.proofs.lemmas.List.Elements.{All-from_recursion, recursion_from_All}
 use Rattle.words_layout.specs.declared.op.Event.{Event}
 use Rattle.class_model.specs.Process.{ProcName}
 use Rattle.config_text.specs.declared.config.Config.{Config as ConfigText}
 use Rattle.machine.specs.Banks.{State}
-use Rattle.machine.specs.Low.{low_events}
 use Rattle.machine.specs.Machine.{Machine, step, words_of, part_effect, effect_at, order_of_effect}
 use Rattle.machine.specs.Steps.{InRange}
 use Rattle.schedule.specs.Ranges.{IsEventOf}
-
--- the events at or below a class
-pub low_range : (k : ConfigText) (table : List ClassEntry) (c : ℕ) (events : List Event) → All (λ (e : Event). IsEventOf k e) events → All (λ (e : Event). IsEventOf k e) (low_events table c events)
-low_range k table c events h = All-filter (λ (e : Event). at_or_below table e.class c) (λ (e : Event). IsEventOf k e) events h
 
 pub in_range : (k : ConfigText) (m : State (List ℕ)) (events : List Event) → length m.banks ≡ k.processors → length m.shared.table ≡ length k.table →
     All (λ (e : Event). IsEventOf k e) events → All (λ (e : Event). InRange m e) events

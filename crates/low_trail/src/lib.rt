@@ -1,7 +1,6 @@
 //! The trail of what is at or below a class, and how it is printed.
 #![tactic(auto)]
 
-mod low_events;
 mod push;
 mod running;
 

@@ -13,12 +13,12 @@ ghost use Rattle.low_trail.specs.LowTrail.{low_trail, low_order, low_machine};
 ghost use Rattle.machine.specs.Banks.{machine_of};
 ghost use Rattle.schedule.specs.Schedule.{events_of};
 
-use crate::low_events::low_events;
 use access_laws::access_laws;
 use audit_trail::{Entry, audit, line_law};
 use config_text::Config;
 use flow_laws::flow_laws;
 use loader::{LoadError, load_state_low, model_state, volumes_law};
+use low_run::low_events;
 use machine::Machine;
 use schedule::events;
 use std::alloc::Global;

@@ -1,43 +1,26 @@
-use Rattle.std.proofs.Common.{refl, sym, ◌∙◌, arith}
+use Rattle.std.proofs.Common.{arith}
 use Rattle.class_model.specs.Valid.{IsConfig}
 use Rattle.config_text.specs.declared.config.Config.{Config as ConfigText}
 use Rattle.loader.specs.Records.{Volumes}
 use Rattle.machine.specs.Machine.{Machine}
 use Rattle.machine.specs.Banks.{machine_of}
-use Rattle.report.proofs.Texts.{pushed_as, torn_as}
 use Rattle.command_input.specs.Input.{loaded}
-use Rattle.command_view.proofs.Viewed.{count, section_is, view_ends}
+use Rattle.low_answer.proofs.Ended.{count, low_prints}
+use Rattle.command_view.specs.Viewed.{IsMachineSection, section_due}
+use Rattle.command_view.proofs.Viewed.{section_is, whole}
 use Rattle.command_view.proofs.viewing.print_view.Goals as goal
 
-pub section-requires : goal.section-requires
-section-requires g c =
+pub section-printed-requires : goal.section-printed-requires
+section-printed-requires g c =
     let n = count c.args.class c.args.input.now.config c.args.input.now.volumes.items (machine_of c.args.machine.now) c.requires.machine in
     omega (arith, n, c.requires.class)
-
-pub returns-in-Err : goal.returns-in-Err
-returns-in-Err g c =
-    let k : ConfigText = c.args.input.now.config in
-    let vs : Volumes = c.args.input.now.volumes.items in
-    let m : Machine = machine_of c.args.machine.now in
-    let valid : IsConfig (loaded k vs) = c.volumes_law.ensures k c.requires.valid vs c.requires.volumes c.requires.loads in
-    (refl, torn_as _ _ _ _ (section_is c.args.class k vs m c.requires.machine c.section_laws.ensures.sections c.shown_laws.ensures.low_parts valid c.requires.few) c.in-Err.ensures)
-
-pub returns-then-some_live : goal.returns-then-some_live
-returns-then-some_live g c =
-    let k : ConfigText = c.args.input.now.config in
-    let vs : Volumes = c.args.input.now.volumes.items in
-    let m : Machine = machine_of c.args.machine.now in
-    let valid : IsConfig (loaded k vs) = c.volumes_law.ensures k c.requires.valid vs c.requires.volumes c.requires.loads in (
-      pushed_as _ _ _ _ (section_is c.args.class k vs m c.requires.machine c.section_laws.ensures.sections c.shown_laws.ensures.low_parts valid c.requires.few) c.in-Ok.ensures,
-      view_ends c.args.class k vs m c.requires.machine c.section_laws.ensures.sections c.shown_laws.ensures.low_parts valid c.requires.few _ (sym c.some_live.ensures ∙ c.if-some_live.true),
-    )
 
 pub returns : goal.returns
 returns g c =
     let k : ConfigText = c.args.input.now.config in
     let vs : Volumes = c.args.input.now.volumes.items in
     let m : Machine = machine_of c.args.machine.now in
-    let valid : IsConfig (loaded k vs) = c.volumes_law.ensures k c.requires.valid vs c.requires.volumes c.requires.loads in (
-      pushed_as _ _ _ _ (section_is c.args.class k vs m c.requires.machine c.section_laws.ensures.sections c.shown_laws.ensures.low_parts valid c.requires.few) c.in-Ok.ensures,
-      view_ends c.args.class k vs m c.requires.machine c.section_laws.ensures.sections c.shown_laws.ensures.low_parts valid c.requires.few _ (sym c.some_live.ensures ∙ c.if-some_live.false),
-    )
+    let valid : IsConfig (loaded k vs) = c.volumes_law.ensures k c.requires.valid vs c.requires.volumes c.requires.loads in
+    let is = section_is c.args.class k vs c.section_laws.ensures.sections valid c.requires.few m c.requires.machine c.shown_laws.ensures.low_parts in
+    low_prints c.args.class k vs m c.requires.machine section_due IsMachineSection (whole c.args.class k vs c.section_laws.ensures.sections valid c.requires.few) _ _ _ _
+    (rw is at c.section-printed.ensures) c.answer_after.ensures

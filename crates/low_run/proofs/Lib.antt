@@ -1,0 +1,4 @@
+pub mod Flagging
+pub mod Idle
+pub mod Picked
+pub mod Runs

@@ -1,6 +1,0 @@
-use Rattle.std.proofs.Common.{◌≡◌, take}
-use Rattle.machine.specs.Low.{low_events}
-use Rattle.low_trail.proofs.low_events.low_events.Given as goal
-
-abbrev pub invariant-loop-event : goal.invariant-loop-event
-invariant-loop-event l = l.low.items ≡ low_events l.table l.class (take l.event-index l.events)
