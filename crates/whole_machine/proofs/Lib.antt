@@ -1,3 +1,4 @@
+pub mod KeyPlaces
 pub mod Lookups
 pub mod Changes
 pub mod TakesPlace

@@ -9,6 +9,7 @@ mod cells;
 mod counts;
 mod effects;
 mod filling;
+mod keyed;
 mod looks;
 mod name;
 mod part;

@@ -1,21 +1,28 @@
 use Rattle.std.proofs.Common.{None}
 use Rattle.class_model.specs.State.{Cell, Deleted}
 use Rattle.whole_machine.specs.Parts.{Listed}
-use Rattle.whole_machine.proofs.Changes.{cells_after, places_kept}
+use Rattle.whole_machine.proofs.Changes.{cell_keys, cells_after, places_kept}
 use Rattle.whole_machine.proofs.cells.delete.Goals as goal
 
 pub returns-clause-changed : goal.returns-clause-changed
 returns-clause-changed c =
-    let cells = c.args.cells.now.items in
+    let cells = c.cells.inside.items.items in
+    let now = c.args.cells.now in
     let at = c.args.at in
     let item : Listed = record { seg = c.item.inside.seg; cell = c.item.inside.cell } in
     let read = c.index_mut-item.result.now in
-    cells_after cells at item read c.delete.new.self (λ (x : Cell). record x { home = Deleted; stored = None }) c.item.view_is c.index_mut-item.ensures.value c.delete.ensures
+    cells_after cells now c.cells.view_is at item read c.delete.new.self (λ (x : Cell). record x { home = Deleted; stored = None }) c.item.view_is c.index_mut-item.ensures.value c.delete.ensures
 
 pub returns-clause-kept : goal.returns-clause-kept
 returns-clause-kept c =
-    let cells = c.args.cells.now.items in
+    let cells = c.cells.inside.items.items in
+    let now = c.args.cells.now in
     let at = c.args.at in
     let item : Listed = record { seg = c.item.inside.seg; cell = c.item.inside.cell } in
     let read = c.index_mut-item.result.now in
-    places_kept cells at item read c.delete.new.self c.item.view_is c.index_mut-item.ensures.value c.requires
+    places_kept cells now c.cells.view_is at item read c.delete.new.self c.item.view_is c.index_mut-item.ensures.value c.requires
+
+pub invariant_of-cells : goal.invariant_of-cells
+invariant_of-cells c =
+    let item : Listed = record { seg = c.item.inside.seg; cell = c.item.inside.cell } in
+    cell_keys c.cells.inside.keys.keys c.cells.inside.items.items c.args.at item c.index_mut-item.result.now c.delete.new.self c.cells.invariant c.item.view_is c.index_mut-item.ensures.value
