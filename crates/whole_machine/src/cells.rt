@@ -88,7 +88,12 @@ impl CellList {
     {
         let cell = CellState::blank();
         let item = ListedCell { seg, cell };
-        push_keyed(&mut self.items, &mut self.keys, item, (seg.mentor, seg.serial))
+        push_keyed(
+            &mut self.items,
+            &mut self.keys,
+            item,
+            (seg.mentor, seg.serial),
+        )
     }
 }
 
@@ -155,11 +160,7 @@ pub(crate) fn swap_in(
 }
 
 /// Swaps out the cell at a place. NoMemory changes nothing.
-pub(crate) fn swap_out(
-    alloc: Global,
-    cells: &mut CellList,
-    at: usize,
-) -> Result<(), AllocError>
+pub(crate) fn swap_out(alloc: Global, cells: &mut CellList, at: usize) -> Result<(), AllocError>
     requires { at < length cells.old }
     ensures ok { IfOk result (λ _. ChangesCell cells.old cells.new at (λ c. record c { home = Stored; stored = Some (live_words c) })) }
     ensures err { OnErr result (SameCells cells.old cells.new) }

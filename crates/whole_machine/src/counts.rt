@@ -94,11 +94,7 @@ impl CountList {
 }
 
 /// Where a component is listed; one of 0 is listed where none was. NoMemory changes nothing.
-pub(crate) fn list_count(
-    counts: &mut CountList,
-    class: u8,
-    seg: SegId,
-) -> Result<usize, AllocError>
+pub(crate) fn list_count(counts: &mut CountList, class: u8, seg: SegId) -> Result<usize, AllocError>
     ensures ok { IfOk result (λ at. ListsAt (is_count class seg) counts.new at) }
     ensures same { SameCounts counts.old counts.new }
 {
