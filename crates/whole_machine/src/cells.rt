@@ -1,6 +1,6 @@
 //! The list of the cells of a class.
 
-ghost use Rattle.std.specs.Prelude.{◌≡◌, ◌+◌, ◌<◌, ◌++◌, ◌∷◌, [], true, ℕ, IfOk, IfSome, OnErr, None, Some, length, position, replicate, unwrap_or};
+ghost use Rattle.std.specs.Prelude.{◌≡◌, ◌+◌, ◌<◌, ◌≤◌, ◌++◌, ◌∷◌, [], true, ℕ, IfOk, IfSome, OnErr, None, Some, length, position, replicate, unwrap_or};
 ghost use Rattle.std.specs.Option.{option_map};
 ghost use Rattle.lists.specs.Lists.{overwrite};
 ghost use Rattle.words_layout.specs.Segments.{same_seg, put_seg};
@@ -9,10 +9,13 @@ ghost use Rattle.class_model.specs.State.{Cell, Stored, In, Deleted, blank_cell,
 ghost use Rattle.class_model.specs.Step.{with_entry};
 ghost use Rattle.whole_machine.specs.Building.{storing};
 ghost use Rattle.whole_machine.specs.Parts.{Listed, is_cell, cell_in};
+ghost use Rattle.whole_machine.specs.Pools.{under, uses_at};
 ghost use Rattle.whole_machine.specs.Shows.{ListsAt, SameCells, KeepsPlaces, ChangesCell};
 
 use crate::cell::CellState;
 use crate::keyed::push_keyed;
+use crate::pools::Pooled;
+use crate::tally::recount;
 use indexmap::IndexSet;
 use std::alloc::{AllocError, Global};
 use std::marker::Model;
@@ -33,22 +36,26 @@ impl Model for ListedCell {
     ghost view = { λ l. record { seg = l.seg; cell = l.cell } };
 }
 
-/// The cells of a class, as they were listed one after the other, and the key of each, by which it is found.
+/// The cells of a class, as they were listed one after the other, with the key of each, by which it is found. The numbers
+/// say how many of those under mentors of each class use a frame, and how many a page.
 #[derive(Drop)]
 pub(crate) struct CellList {
     items: Vec<ListedCell>,
     keys: IndexSet<(u8, u8)>,
+    frames: [u32; 16],
+    pages: [u32; 16],
 }
 
 impl Model for CellList {
-    ghost use Rattle.std.specs.Prelude.{◌≡◌, List, map};
-    ghost use Rattle.whole_machine.specs.Parts.{Listed, cell_key};
+    ghost use Rattle.std.specs.Prelude.{List};
+    ghost use Rattle.whole_machine.specs.Parts.{Listed};
+    ghost use Rattle.whole_machine.specs.Pools.{IsKept};
 
     ghost Value = { List Listed };
 
     ghost view = { λ l. l.items.items };
 
-    ghost invariant = { λ l. l.keys.keys ≡ map cell_key l.items.items };
+    ghost invariant = { λ l. IsKept l.items.items l.keys.keys l.frames l.pages };
 }
 
 impl CellList {
@@ -59,6 +66,8 @@ impl CellList {
         CellList {
             items: Vec::new(alloc),
             keys: IndexSet::new(alloc),
+            frames: [0; 16],
+            pages: [0; 16],
         }
     }
 
@@ -77,6 +86,18 @@ impl CellList {
         match self.place_of(seg) {
             Some(at) => Some(&self.items[at].cell),
             None => None,
+        }
+    }
+
+    /// How many cells under mentors of a class use a frame, or a page.
+    pub(crate) fn used_under(&self, kind: Pooled, mentor: u8) -> u32
+        requires { mentor < 16 }
+        ensures count { result ≡ under (uses_at kind self.now) mentor }
+        ensures limit { result ≤ 64 }
+    {
+        match kind {
+            Pooled::Frame => self.frames[mentor as usize],
+            Pooled::Page => self.pages[mentor as usize],
         }
     }
 
@@ -130,7 +151,14 @@ pub(crate) fn store(cells: &mut CellList, at: usize, kept: Option<Vec<u64>>)
     ensures { ChangesCell cells.old cells.new at (storing (option_map (λ v. v.items) kept)) }
 {
     let item = &mut cells.items[at];
+    let seg = item.seg;
+    let was_in = item.cell.is_in();
+    let had_stored = item.cell.has_stored();
     item.cell.store(kept);
+    let is_in = item.cell.is_in();
+    let has_stored = item.cell.has_stored();
+    recount(&mut cells.frames, seg, was_in, is_in);
+    recount(&mut cells.pages, seg, had_stored, has_stored);
 }
 
 /// Deletes the cell at a place.
@@ -140,7 +168,12 @@ pub(crate) fn delete(cells: &mut CellList, at: usize)
     ensures kept { KeepsPlaces cells.old cells.new }
 {
     let item = &mut cells.items[at];
+    let seg = item.seg;
+    let was_in = item.cell.is_in();
+    let had_stored = item.cell.has_stored();
     item.cell.delete();
+    recount(&mut cells.frames, seg, was_in, false);
+    recount(&mut cells.pages, seg, had_stored, false);
 }
 
 /// Swaps in the cell at a place. NoMemory changes nothing.
@@ -155,7 +188,10 @@ pub(crate) fn swap_in(
     ensures err { OnErr result (SameCells cells.old cells.new) }
 {
     let item = &mut cells.items[at];
+    let seg = item.seg;
+    let was_in = item.cell.is_in();
     item.cell.swap_in(alloc, size)?;
+    recount(&mut cells.frames, seg, was_in, true);
     Ok(())
 }
 
@@ -166,7 +202,12 @@ pub(crate) fn swap_out(alloc: Global, cells: &mut CellList, at: usize) -> Result
     ensures err { OnErr result (SameCells cells.old cells.new) }
 {
     let item = &mut cells.items[at];
+    let seg = item.seg;
+    let was_in = item.cell.is_in();
+    let had_stored = item.cell.has_stored();
     item.cell.swap_out(alloc)?;
+    recount(&mut cells.frames, seg, was_in, false);
+    recount(&mut cells.pages, seg, had_stored, true);
     Ok(())
 }
 

@@ -21,6 +21,7 @@ mod section;
 mod segments;
 mod state;
 mod step;
+mod tally;
 mod text;
 
 pub use building::building_law;

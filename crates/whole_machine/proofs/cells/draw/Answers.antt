@@ -1,7 +1,10 @@
-use Rattle.std.proofs.Common.{◌+◌, ◌∙◌, ap}
+use Rattle.std.proofs.Common.{◌<◌, length, List, sym, subst, ◌+◌, ◌∙◌, ap}
 use Rattle.class_model.specs.State.{Cell}
 use Rattle.whole_machine.specs.Parts.{Listed}
-use Rattle.whole_machine.proofs.Changes.{cell_keys, cells_after, read_cell}
+use Rattle.whole_machine.specs.Pools.{uses}
+use Rattle.whole_machine.specs.declared.pools.Pooled.TheVariants as P
+use Rattle.whole_machine.proofs.KeptCells.{kept_alike}
+use Rattle.whole_machine.proofs.Changes.{cells_after, read_cell}
 use Rattle.whole_machine.proofs.cells.draw.Goals as goal
 
 pub returns-clause-ok : goal.returns-clause-ok
@@ -25,4 +28,6 @@ returns-clause-ticket c = λ u l.
 pub invariant_of-cells-2 : goal.invariant_of-cells-2
 invariant_of-cells-2 c =
     let item : Listed = record { seg = c.item.inside.seg; cell = c.item.inside.cell } in
-    cell_keys c.cells.inside.keys.keys c.cells.inside.items.items c.args.at item c.index_mut-item.result.now c.draw.new.self c.cells.invariant c.item.view_is c.index_mut-item.ensures.value
+    let cells = c.cells.inside.items.items in
+    let lt : c.args.at < length cells = subst (λ (xs : List Listed). c.args.at < length xs) (sym c.cells.view_is) c.requires in
+    kept_alike cells c.cells.inside.keys.keys c.cells.inside.frames c.cells.inside.pages c.cells.invariant c.args.at item c.index_mut-item.result.now c.draw.new.self c.item.view_is c.index_mut-item.ensures.value lt (ap (uses P.Frame) c.in_ok-ticket.ensures.ok.1) (ap (uses P.Page) c.in_ok-ticket.ensures.ok.1)

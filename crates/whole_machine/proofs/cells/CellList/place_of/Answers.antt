@@ -9,4 +9,4 @@ returns c =
     let u = c.args.seg in
     let q : ℕ × ℕ → Bool = λ k. u.mentor == k.0 && u.serial == k.1 in
     let P : List Listed → Type 0 = λ xs. c.get_index_of.result ≡ position (is_cell u) xs in
-    subst P c.self.view_is (c.get_index_of.ensures.index ∙ ap (λ (ks : List (ℕ × ℕ)). position q ks) c.self.invariant ∙ found_by_key cell_key q c.self.inside.items.items)
+    subst P c.self.view_is (c.get_index_of.ensures.index ∙ ap (λ (ks : List (ℕ × ℕ)). position q ks) c.self.invariant.keyed ∙ found_by_key cell_key q c.self.inside.items.items)
