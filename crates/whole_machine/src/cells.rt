@@ -1,9 +1,8 @@
 //! The list of the cells of a class.
 
-ghost use Rattle.std.specs.Prelude.{◌≡◌, ◌+◌, ◌<◌, ◌≤◌, ◌++◌, ◌∷◌, [], true, ℕ, IfOk, IfSome, OnErr, None, Some, length, position, replicate, unwrap_or};
+ghost use Rattle.std.specs.Prelude.{◌≡◌, ◌+◌, ◌<◌, ◌≤◌, ◌++◌, ◌∷◌, [], true, IfOk, IfSome, OnErr, None, Some, length, position, replicate, unwrap_or};
 ghost use Rattle.std.specs.Option.{option_map};
 ghost use Rattle.lists.specs.Lists.{overwrite};
-ghost use Rattle.words_layout.specs.Segments.{same_seg, put_seg};
 ghost use Rattle.words_layout.specs.declared.segment.SegId.{SegId};
 ghost use Rattle.class_model.specs.State.{Cell, Stored, In, Deleted, blank_cell, is_in, live_words};
 ghost use Rattle.class_model.specs.Step.{with_entry};

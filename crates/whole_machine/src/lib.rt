@@ -1,4 +1,4 @@
-//! The machine of whole instructions as a plain and slow program on lists.
+//! The machine of whole instructions as a plain program on lists.
 #![tactic(auto)]
 
 mod asking;

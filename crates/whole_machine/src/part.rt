@@ -1,11 +1,8 @@
 //! What is listed of a class.
 
-ghost use Rattle.std.specs.Prelude.{◌≡◌, ◌+◌, ◌*◌, ◌<◌, ◌==◌, ◌&&◌, true, false, IfOk, IfSome, OnErr, Some, None, is_none, length, position, slice_index_or, slice_set};
-ghost use Rattle.std.specs.Option.{option_map};
-ghost use Rattle.words_layout.specs.Segments.{same_seg};
+ghost use Rattle.std.specs.Prelude.{◌≡◌, ◌<◌, IfOk, Some, None, length};
 ghost use Rattle.class_model.specs.State.{Cell};
-ghost use Rattle.whole_machine.specs.Parts.{Listed, Counted, ListedPart, is_cell, is_count, cell_in, count_in, part_in, slots_in, no_part};
-ghost use Rattle.whole_machine.specs.Shows.{Shows, Stands, ListsAt, SameCells, SameButCells};
+ghost use Rattle.whole_machine.specs.Parts.{Listed, ListedPart, cell_in, count_in, no_part};
 
 use crate::cell::CellState;
 use crate::cells::CellList;

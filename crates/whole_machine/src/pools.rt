@@ -1,6 +1,6 @@
 //! How many frames and pages of a class are in use, and what swaps words.
 
-ghost use Rattle.std.specs.Prelude.{◌≡◌, ◌<◌, ◌&&◌, [], ◌∷◌, true, not, nat_le, length, IfOk, OnErr, None, Some, is_none, is_some};
+ghost use Rattle.std.specs.Prelude.{◌≡◌, ◌<◌, ◌&&◌, [], ◌∷◌, true, not, nat_le, length, IfOk, OnErr, None, Some, is_none};
 ghost use Rattle.policy.specs.Verdict.{first_broken, ◌⇒◌};
 ghost use Rattle.policy.specs.declared.rule.Rule.{Rule};
 ghost use Rattle.class_model.specs.Config.{classes, pool_of};

@@ -1,6 +1,6 @@
 //! Numbers of the cells that use a frame or a page, under mentors of each class.
 
-ghost use Rattle.std.specs.Prelude.{◌≡◌, Bool};
+ghost use Rattle.std.specs.Prelude.{Bool};
 ghost use Rattle.words_layout.specs.declared.segment.SegId.{SegId};
 ghost use Rattle.whole_machine.specs.Pools.{ChangesAt, CountsUnder};
 
