@@ -35,7 +35,7 @@ listed_first cells at item read apart i g lt = record {
       let a : get_or (map cell_key cells) j (0, 0) ≡ cell_key (get_or cells j d) = get_or-map cell_key cells j d (0, 0) within in
       let b : get_or (map cell_key cells) at (0, 0) ≡ cell_key item = get_or-map cell_key cells at d (0, 0) lt ∙ ap cell_key (sym (is d)) in
       let other : same_seg (get_or cells j d).seg item.seg ≡ false =
-          subst (λ (k : ℕ × ℕ). same_key (cell_key (get_or cells j d)) k ≡ false) b (subst (λ (k : ℕ × ℕ). same_key k (get_or (map cell_key cells) at (0, 0)) ≡ false) a raw) in
+      subst (λ (k : ℕ × ℕ). same_key (cell_key (get_or cells j d)) k ≡ false) b (subst (λ (k : ℕ × ℕ). same_key k (get_or (map cell_key cells) at (0, 0)) ≡ false) a raw) in
       flipped (get_or cells j d).seg item.seg other);
 }
   where
