@@ -1,3 +1,6 @@
+pub mod KeptCells
+pub mod Tallies
+pub mod KeyPlaces
 pub mod Lookups
 pub mod Changes
 pub mod TakesPlace

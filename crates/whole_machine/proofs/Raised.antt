@@ -47,15 +47,18 @@ applied : (a : Bool) (f g : SegId → ℕ) (v : SegId) → (if a then f v else g
 applied true f g v = refl
 applied false f g v = refl
 
--- what is read at the place is the component
-pub read_count : (counts : List Counted) (x : ℕ) (u : SegId) (at : ℕ) (item : Counted) → item ≡ get_or counts at item → ListsAt (is_count x u) counts at → item.count ≡ count_in counts x u
-read_count counts x u at item g l =
+read_here : (counts : List Counted) (x : ℕ) (u : SegId) (at : ℕ) (item : Counted) → item ≡ get_or counts at item → ListsAt (is_count x u) counts at → item.count ≡ count_in counts x u
+read_here counts x u at item g l =
     ap (λ (y : Counted). y.count) g ∙ sym (first_at (is_count x u) (λ y. y.count) 0 counts at item l.inside (l.here item) (λ k. l.before k item))
 
--- the components after it rises
-pub raised : (counts : List Counted) (at : ℕ) (item : Counted) → item ≡ get_or counts at item →
+-- what is read at the place is the component
+pub read_count : (counts now : List Counted) → counts ≡ now → (x : ℕ) (u : SegId) (at : ℕ) (item : Counted) → item ≡ get_or counts at item → ListsAt (is_count x u) now at → item.count ≡ count_in now x u
+read_count counts now v x u at item g =
+    subst (λ (ys : List Counted). ListsAt (is_count x u) ys at → item.count ≡ count_in ys x u) v (read_here counts x u at item g)
+
+raised_here : (counts : List Counted) (at : ℕ) (item : Counted) → item ≡ get_or counts at item →
     RaisesCount counts (set counts at (record item { count = item.count + 1 })) at
-raised counts at item g x u l = λ k z v. (each z v) k
+raised_here counts at item g x u l = λ k z v. (each z v) k
   where
     y : Counted
     y = record item { count = item.count + 1 }
@@ -64,7 +67,7 @@ raised counts at item g x u l = λ k z v. (each z v) k
     key = key_of x u item (ap (λ (w : Counted). is_count x u w) g ∙ l.here item)
 
     old : item.count ≡ count_in counts x u
-    old = read_count counts x u at item g l
+    old = read_here counts x u at item g l
 
     each : (z : ℕ) (v : SegId) → count_in (set counts at y) z v ≡ put (count_in counts) x (put_seg (count_in counts x) u (count_in counts x u + 1)) z v
     each z v =
@@ -77,3 +80,9 @@ raised counts at item g x u l = λ k z v. (each z v) k
         at_class (z == x) (count_in counts x u + 1) (count_in counts z v) (count_in counts x v) (same_seg v u)
         (λ e. ap (λ (n : ℕ). count_in counts n v) (eqb-true z x e)) ∙
         applied (z == x) (put_seg (count_in counts x) u (count_in counts x u + 1)) (count_in counts z) v
+
+-- the components after it rises
+pub raised : (counts now : List Counted) → counts ≡ now → (at : ℕ) (item : Counted) → item ≡ get_or counts at item →
+    RaisesCount now (set counts at (record item { count = item.count + 1 })) at
+raised counts now v at item g =
+    subst (λ (ys : List Counted). RaisesCount ys (set counts at (record item { count = item.count + 1 })) at) v (raised_here counts at item g)

@@ -46,6 +46,14 @@ is_cell u x = same_seg u x.seg
 abbrev pub is_count : ℕ → SegId → Counted → Bool
 is_count x u y = x == y.class && same_seg u y.seg
 
+-- what the cell of an identity is found by
+abbrev pub cell_key : Listed → ℕ × ℕ
+cell_key x = (x.seg.mentor, x.seg.serial)
+
+-- what a component at an identity of class x is found by
+abbrev pub count_key : Counted → ℕ × (ℕ × ℕ)
+count_key y = (y.class, (y.seg.mentor, y.seg.serial))
+
 -- the cell of an identity: the first that is listed, else a blank one
 abbrev pub cell_in : List Listed → SegId → Cell
 cell_in cells u = first_of (is_cell u) (λ x. x.cell) blank_cell cells

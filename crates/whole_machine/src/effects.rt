@@ -11,7 +11,7 @@ ghost use Rattle.class_model.specs.Step.{create_effect, delete_effect, swap_in_e
 ghost use Rattle.whole_machine.specs.Parts.{cell_in, count_in, part_in};
 ghost use Rattle.whole_machine.specs.Shows.{Shows, Stands, SameCells, KeepsPlaces, lost, with_child, with_words};
 
-use crate::cells::{ListedCell, delete, draw, list_cell, set_entry, update};
+use crate::cells::{CellList, delete, draw, list_cell, set_entry, update};
 use crate::part::PartState;
 use class_model::Shown;
 use policy::Rule;
@@ -34,10 +34,10 @@ fn new_alias(class: u8, brackets: &Brackets, size: u8, serial: u8) -> Alias
 }
 
 /// Where it is `own`, the cell of the child is deleted. NoMemory changes no cell.
-fn lose(cells: &mut Vec<ListedCell>, own: bool, child: SegId) -> Result<(), AllocError>
-    ensures ok { IfOk result (λ _. cell_in cells.new.items ≡ lost own (cell_in cells.old.items) child) }
-    ensures err { OnErr result (SameCells cells.old.items cells.new.items) }
-    ensures kept { KeepsPlaces cells.old.items cells.new.items }
+fn lose(cells: &mut CellList, own: bool, child: SegId) -> Result<(), AllocError>
+    ensures ok { IfOk result (λ _. cell_in cells.new ≡ lost own (cell_in cells.old) child) }
+    ensures err { OnErr result (SameCells cells.old cells.new) }
+    ensures kept { KeepsPlaces cells.old cells.new }
 {
     if !own {
         return Ok(());

@@ -1,4 +1,4 @@
-//! The machine of whole instructions as a plain and slow program on lists.
+//! The machine of whole instructions as a plain program on lists.
 #![tactic(auto)]
 
 mod asking;
@@ -9,6 +9,7 @@ mod cells;
 mod counts;
 mod effects;
 mod filling;
+mod keyed;
 mod looks;
 mod name;
 mod part;
@@ -20,6 +21,7 @@ mod section;
 mod segments;
 mod state;
 mod step;
+mod tally;
 mod text;
 
 pub use building::building_law;

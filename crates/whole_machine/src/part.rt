@@ -1,15 +1,12 @@
 //! What is listed of a class.
 
-ghost use Rattle.std.specs.Prelude.{◌≡◌, ◌+◌, ◌*◌, ◌<◌, ◌==◌, ◌&&◌, true, false, IfOk, IfSome, OnErr, Some, None, is_none, length, position, slice_index_or, slice_set};
-ghost use Rattle.std.specs.Option.{option_map};
-ghost use Rattle.words_layout.specs.Segments.{same_seg};
+ghost use Rattle.std.specs.Prelude.{◌≡◌, ◌<◌, IfOk, Some, None, length};
 ghost use Rattle.class_model.specs.State.{Cell};
-ghost use Rattle.whole_machine.specs.Parts.{Listed, Counted, ListedPart, is_cell, is_count, cell_in, count_in, part_in, slots_in, no_part};
-ghost use Rattle.whole_machine.specs.Shows.{Shows, Stands, ListsAt, SameCells, SameButCells};
+ghost use Rattle.whole_machine.specs.Parts.{Listed, ListedPart, cell_in, count_in, no_part};
 
 use crate::cell::CellState;
-use crate::cells::{ListedCell, place_of};
-use crate::counts::{ListedCount, count_place};
+use crate::cells::CellList;
+use crate::counts::CountList;
 use class_model::ProcessState;
 use std::alloc::{AllocError, Global};
 use std::marker::Model;
@@ -19,8 +16,8 @@ use words_layout::SegId;
 /// and its sixteen slots, four for each processor.
 #[derive(Drop)]
 pub(crate) struct PartState {
-    pub(crate) cells: Vec<ListedCell>,
-    pub(crate) counts: Vec<ListedCount>,
+    pub(crate) cells: CellList,
+    pub(crate) counts: CountList,
     pub(crate) next_serial: u8,
     pub(crate) lines: Vec<u64>,
     pub(crate) used: u64,
@@ -36,7 +33,7 @@ impl Model for PartState {
 
     ghost Value = { ListedPart };
 
-    ghost view = { λ p. record { cells = p.cells.items; counts = p.counts.items; next_serial = p.next_serial; lines = p.lines.items; used = p.used; bank = p.bank.items } };
+    ghost view = { λ p. record { cells = p.cells; counts = p.counts; next_serial = p.next_serial; lines = p.lines.items; used = p.used; bank = p.bank.items } };
 
     ghost invariant = { λ p. (length p.bank.items ≡ 16) × (p.blank ≡ blank_cell) };
 }
@@ -51,8 +48,8 @@ impl PartState {
             bank.push(None)?;
         }
         Ok(PartState {
-            cells: Vec::new(alloc),
-            counts: Vec::new(alloc),
+            cells: CellList::new(alloc),
+            counts: CountList::new(alloc),
             next_serial: 0,
             lines: Vec::new(alloc),
             used: 0,
@@ -72,8 +69,8 @@ impl PartState {
     pub(crate) fn cell(&self, seg: SegId) -> &CellState
         ensures { result.now ≡ cell_in self.now.cells seg }
     {
-        match place_of(self.cells.as_slice(), seg) {
-            Some(at) => self.cells[at].cell(),
+        match self.cells.find(seg) {
+            Some(cell) => cell,
             None => &self.blank,
         }
     }
@@ -82,9 +79,6 @@ impl PartState {
     pub(crate) fn count(&self, class: u8, seg: SegId) -> u64
         ensures { result ≡ count_in self.now.counts class seg }
     {
-        match count_place(self.counts.as_slice(), class, seg) {
-            Some(at) => self.counts[at].count(),
-            None => 0,
-        }
+        self.counts.count(class, seg)
     }
 }

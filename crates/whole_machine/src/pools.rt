@@ -1,24 +1,21 @@
 //! How many frames and pages of a class are in use, and what swaps words.
 
-ghost use Rattle.std.specs.Prelude.{◌≡◌, ◌<◌, ◌≤◌, ◌&&◌, [], ◌∷◌, true, not, nat_le, map, count_by, length, IfOk, OnErr, None, Some, is_none, is_some};
-ghost use Rattle.lists.specs.Lists.{below};
-ghost use Rattle.words_layout.specs.Segments.{seg};
+ghost use Rattle.std.specs.Prelude.{◌≡◌, ◌<◌, ◌&&◌, [], ◌∷◌, true, not, nat_le, length, IfOk, OnErr, None, Some, is_none};
 ghost use Rattle.policy.specs.Verdict.{first_broken, ◌⇒◌};
 ghost use Rattle.policy.specs.declared.rule.Rule.{Rule};
 ghost use Rattle.class_model.specs.Config.{classes, pool_of};
 ghost use Rattle.class_model.specs.State.{is_in, is_deleted, frames_in_use, pages_in_use};
 ghost use Rattle.class_model.specs.Step.{swap_in_effect, swap_out_effect};
 ghost use Rattle.whole_machine.specs.Parts.{cell_in, part_in};
-ghost use Rattle.whole_machine.specs.Pools.{uses, in_use};
+ghost use Rattle.whole_machine.specs.Pools.{in_use};
 ghost use Rattle.whole_machine.specs.Shows.{Shows, Stands, swapped_in, swapped_out};
 
-use crate::cell::CellState;
 use crate::cells::{list_cell, swap_in, swap_out};
 use crate::part::PartState;
 use class_model::{Shared, Shown};
 use policy::{Known, Rule};
 use std::alloc::{AllocError, Global};
-use words_layout::{SERIAL_LIMIT, SegId};
+use words_layout::SegId;
 
 /// What a class has a number of.
 #[derive(Clone, Copy, Debug, PartialEq, Eq)]
@@ -27,46 +24,17 @@ pub(crate) enum Pooled {
     Page,
 }
 
-/// Whether a cell uses one.
-fn uses(kind: Pooled, cell: &CellState) -> bool
-    ensures { result ≡ uses kind cell.now }
-{
-    match kind {
-        Pooled::Frame => cell.is_in(),
-        Pooled::Page => cell.has_stored(),
-    }
-}
-
 impl PartState {
-    /// 1 where the cell of an identity uses one, else 0.
-    fn use_at(&self, kind: Pooled, seg: SegId) -> u32
-        ensures count { result ≡ count_by (λ u. uses kind (cell_in self.now.cells u)) (seg ∷ []) }
-        ensures one { result ≤ 1 }
-    {
-        if uses(kind, self.cell(seg)) { 1 } else { 0 }
-    }
-
-    /// How many cells of the identities under mentors of a class use one.
-    #[tactic(auto, using(crate::proofs::Counting::serials_counted))]
-    fn in_use_under(&self, kind: Pooled, mentor: u8) -> u32
-        ensures count { result ≡ count_by (λ u. uses kind (cell_in self.now.cells u)) (map (λ s. seg mentor s) (below 64)) }
-        ensures limit { result ≤ 64 }
-    {
-        let mut count = 0;
-        for serial in 0..SERIAL_LIMIT {
-            count += self.use_at(kind, SegId { mentor, serial });
-        }
-        count
-    }
-
-    /// How many cells use one, where there are so many classes.
+    /// How many cells use one.
     #[tactic(auto, using(crate::proofs::Counting::mentors_counted))]
-    fn in_use(&self, kind: Pooled, classes: u8) -> u32
-        ensures { result ≡ in_use kind self.now.cells classes }
+    fn in_use(&self, kind: Pooled, shared: &Shared) -> u32
+        ensures { result ≡ in_use kind self.now.cells (classes shared.now) }
     {
+        let table = shared.table();
+        table.table_law();
         let mut count = 0;
-        for mentor in 0..classes {
-            count += self.in_use_under(kind, mentor);
+        for mentor in 0..table.count() {
+            count += self.cells.used_under(kind, mentor);
         }
         count
     }
@@ -86,7 +54,7 @@ impl PartState {
         if cell.is_in() {
             return Some(Rule::AlreadyIn);
         }
-        let used = self.in_use(Pooled::Frame, shared.table().count());
+        let used = self.in_use(Pooled::Frame, shared);
         let pool = shared.pool(class);
         if pool.frames as u32 <= used {
             return Some(Rule::NoFrame);
@@ -109,7 +77,7 @@ impl PartState {
         if !cell.is_in() {
             return Some(Rule::NotIn);
         }
-        let used = self.in_use(Pooled::Page, shared.table().count());
+        let used = self.in_use(Pooled::Page, shared);
         let pool = shared.pool(class);
         if !cell.has_stored() && pool.pages as u32 <= used {
             return Some(Rule::NoPage);

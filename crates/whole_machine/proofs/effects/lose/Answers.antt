@@ -8,10 +8,10 @@ use Rattle.whole_machine.proofs.effects.lose.Goals as goal
 
 pub returns-clause-ok : goal.returns-clause-ok
 returns-clause-ok c =
-    let cells = c.args.cells.now.items in
-    let P : Bool → Type 0 = λ own. cell_in c.delete.new.cells.items ≡ lost own (cell_in cells) c.args.child in
+    let cells = c.args.cells.now in
+    let P : Bool → Type 0 = λ own. cell_in c.delete.new.cells ≡ lost own (cell_in cells) c.args.child in
     let own : c.args.own ≡ true = grind (arith, common_steps) in
-    subst P (sym own) (listed_and_changed cells c.list_cell.new.cells.items c.delete.new.cells.items c.args.child c.in_ok-at.at
+    subst P (sym own) (listed_and_changed cells c.list_cell.new.cells c.delete.new.cells c.args.child c.in_ok-at.at
     (λ (x : Cell). record x { home = Deleted; stored = None }) c.in_ok-at.ensures.same c.in_ok-at.ensures.ok c.delete.ensures.changed)
 
 pub returns-clause-kept : goal.returns-clause-kept

@@ -13,10 +13,10 @@ pub returns-clause-ok : goal.returns-clause-ok
 returns-clause-ok c =
     let x = c.args.class in
     let u = c.args.seg in
-    let q : ListedPart = record { cells = c.self.inside.cells.items; counts = c.self.inside.counts.items; next_serial = c.self.inside.next_serial; lines = c.self.inside.lines.items; used = c.self.inside.used; bank = c.self.inside.bank.items } in
-    let after : ListedPart = record { cells = c.self.inside.cells.items; counts = c.raise.new.counts.items; next_serial = c.self.inside.next_serial; lines = c.self.inside.lines.items; used = c.self.inside.used; bank = c.self.inside.bank.items } in
+    let q : ListedPart = record { cells = c.self.inside.cells; counts = c.self.inside.counts; next_serial = c.self.inside.next_serial; lines = c.self.inside.lines.items; used = c.self.inside.used; bank = c.self.inside.bank.items } in
+    let after : ListedPart = record { cells = c.self.inside.cells; counts = c.raise.new.counts; next_serial = c.self.inside.next_serial; lines = c.self.inside.lines.items; used = c.self.inside.used; bank = c.self.inside.bank.items } in
     let P : ListedPart → Type 0 = λ z. Shows (advance_effect (part_in z) x u) after (S.Value c.in_ok-count.count) in
-    let same : count_in c.list_count.new.counts.items ≡ count_in q.counts = λ k z v. (c.in_ok-at.ensures.same z v) k in
+    let same : count_in c.list_count.new.counts ≡ count_in q.counts = λ k z v. (c.in_ok-at.ensures.same z v) k in
     let place = c.in_ok-at.ensures.ok in
     let counts = c.in_ok-count.ensures.ok x u place ∙ ap (λ (f : ℕ → SegId → ℕ). put f x (put_seg (f x) u (f x u + 1))) same in
     subst P c.self.view_is (record {

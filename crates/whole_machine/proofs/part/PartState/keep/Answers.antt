@@ -9,6 +9,6 @@ use Rattle.whole_machine.proofs.part.PartState.keep.Goals as goal
 
 pub returns : goal.returns
 returns c = λ u.
-    let q : ListedPart = record { cells = c.self.inside.cells.items; counts = c.self.inside.counts.items; next_serial = c.self.inside.next_serial; lines = c.self.inside.lines.items; used = c.self.inside.used; bank = c.self.inside.bank.items } in
-    let after : ListedPart = record { cells = c.store.new.cells.items; counts = c.self.inside.counts.items; next_serial = c.self.inside.next_serial; lines = c.self.inside.lines.items; used = c.self.inside.used; bank = c.self.inside.bank.items } in
+    let q : ListedPart = record { cells = c.self.inside.cells; counts = c.self.inside.counts; next_serial = c.self.inside.next_serial; lines = c.self.inside.lines.items; used = c.self.inside.used; bank = c.self.inside.bank.items } in
+    let after : ListedPart = record { cells = c.store.new.cells; counts = c.self.inside.counts; next_serial = c.self.inside.next_serial; lines = c.self.inside.lines.items; used = c.self.inside.used; bank = c.self.inside.bank.items } in
     subst (λ (z : ListedPart). ListsAt (is_cell u) z.cells c.args.at → part_in after ≡ keeping (part_in z) u (words_of c.args.kept (λ v. v.items))) c.self.view_is (λ l. ap (λ (f : SegId → Cell). record (part_in q) { cell = f }) (c.store.ensures u l))

@@ -8,7 +8,7 @@ use Rattle.whole_machine.proofs.part.PartState.process.Goals.{then-processor-ge4
 
 pub returns-then-processor-ge4-clause-process : goal.returns-then-processor-ge4-clause-process
 returns-then-processor-ge4-clause-process c =
-    let q : ListedPart = record { cells = c.self.inside.cells.items; counts = c.self.inside.counts.items; next_serial = c.self.inside.next_serial; lines = c.self.inside.lines.items; used = c.self.inside.used; bank = c.self.inside.bank.items } in
+    let q : ListedPart = record { cells = c.self.inside.cells; counts = c.self.inside.counts; next_serial = c.self.inside.next_serial; lines = c.self.inside.lines.items; used = c.self.inside.used; bank = c.self.inside.bank.items } in
     elim c.then-processor-ge4.branch [
       | then-processor-ge4-via-then-processor-ge4 w ↦ sym (ap (λ (y : ListedPart). slot_in y c.args.processor c.args.slot) (sym c.self.view_is) ∙ no_other q.bank c.args.processor c.args.slot c.self.invariant.0 w.if-processor-ge4.true)
       | then-processor-ge4-via-else-processor-ge4+then-slot-ge4 w ↦ sym (ap (λ (y : ListedPart). slot_in y c.args.processor c.args.slot) (sym c.self.view_is) ∙ no_fifth q.bank c.args.processor c.args.slot w.if-slot-ge4.true)
@@ -16,7 +16,7 @@ returns-then-processor-ge4-clause-process c =
 
 pub returns-clause-process : goal.returns-clause-process
 returns-clause-process c =
-    let q : ListedPart = record { cells = c.self.inside.cells.items; counts = c.self.inside.counts.items; next_serial = c.self.inside.next_serial; lines = c.self.inside.lines.items; used = c.self.inside.used; bank = c.self.inside.bank.items } in
+    let q : ListedPart = record { cells = c.self.inside.cells; counts = c.self.inside.counts; next_serial = c.self.inside.next_serial; lines = c.self.inside.lines.items; used = c.self.inside.used; bank = c.self.inside.bank.items } in
     let small : c.args.slot < 4 = omega arith in
     let read = ap (λ (y : ListedPart). slot_in y c.args.processor c.args.slot) (sym c.self.view_is) ∙ slot_read q.bank c.args.processor c.args.slot small in
     let place : c.place_of.result ≡ 4 * c.args.processor + c.args.slot = c.place_of.ensures.place in

@@ -17,11 +17,11 @@ returns-clause-ok c =
     let child = c.args.child in
     let own = c.args.own in
     let e = c.args.entry in
-    let q : ListedPart = record { cells = c.self.inside.cells.items; counts = c.self.inside.counts.items; next_serial = c.self.inside.next_serial; lines = c.self.inside.lines.items; used = c.self.inside.used; bank = c.self.inside.bank.items } in
-    let after : ListedPart = record { cells = c.set_entry.new.cells.items; counts = c.self.inside.counts.items; next_serial = c.self.inside.next_serial; lines = c.self.inside.lines.items; used = c.self.inside.used; bank = c.self.inside.bank.items } in
+    let q : ListedPart = record { cells = c.self.inside.cells; counts = c.self.inside.counts; next_serial = c.self.inside.next_serial; lines = c.self.inside.lines.items; used = c.self.inside.used; bank = c.self.inside.bank.items } in
+    let after : ListedPart = record { cells = c.set_entry.new.cells; counts = c.self.inside.counts; next_serial = c.self.inside.next_serial; lines = c.self.inside.lines.items; used = c.self.inside.used; bank = c.self.inside.bank.items } in
     let P : ListedPart → Type 0 = λ z. part_in after ≡ emptied (if own then deleted (part_in z) child else part_in z) u e in
     let emptied_in : (SegId → Cell) → SegId → Cell = λ g. put_seg g u (with_entry (g u) e None) in
-    let same : cell_in c.list_cell.new.cells.items ≡ cell_in q.cells = λ k v. (c.in_ok-at.ensures.same v) k in
+    let same : cell_in c.list_cell.new.cells ≡ cell_in q.cells = λ k v. (c.in_ok-at.ensures.same v) k in
     let gone = c.in_ok-lose.ensures.ok ∙ ap (λ (g : SegId → Cell). lost own g child) same in
     let cells = c.set_entry.ensures.changed u (c.in_ok-lose.ensures.kept u c.in_ok-at.at c.in_ok-at.ensures.ok) ∙ ap emptied_in gone in
     subst P c.self.view_is (ap (λ (g : SegId → Cell). record (part_in q) { cell = g }) cells ∙ sym (emptied_is own (part_in q) child u e))

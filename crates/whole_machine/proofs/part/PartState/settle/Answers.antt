@@ -9,7 +9,7 @@ use Rattle.whole_machine.proofs.part.PartState.settle.Goals as goal
 
 pub settle-requires-clause-there : goal.settle-requires-clause-there
 settle-requires-clause-there c =
-    let q : ListedPart = record { cells = c.self.inside.cells.items; counts = c.self.inside.counts.items; next_serial = c.self.inside.next_serial; lines = c.self.inside.lines.items; used = c.self.inside.used; bank = c.self.inside.bank.items } in
+    let q : ListedPart = record { cells = c.self.inside.cells; counts = c.self.inside.counts; next_serial = c.self.inside.next_serial; lines = c.self.inside.lines.items; used = c.self.inside.used; bank = c.self.inside.bank.items } in
     let P : Slot → Type 0 = λ y. IfSome y (λ (p : Process). p.place < 256) in
     placed P q c.args.processor c.args.slot c.place_of-at.result c.requires.slot c.place_of-at.ensures.place
     (subst (λ (y : ListedPart). P (slot_in y c.args.processor c.args.slot)) (sym c.self.view_is) c.requires.there)
@@ -19,7 +19,7 @@ invariant_of-self c = (c.settle.ensures.as_many ∙ c.self.invariant.0, c.self.i
 
 pub returns : goal.returns
 returns c =
-    let q : ListedPart = record { cells = c.self.inside.cells.items; counts = c.self.inside.counts.items; next_serial = c.self.inside.next_serial; lines = c.self.inside.lines.items; used = c.self.inside.used; bank = c.self.inside.bank.items } in
+    let q : ListedPart = record { cells = c.self.inside.cells; counts = c.self.inside.counts; next_serial = c.self.inside.next_serial; lines = c.self.inside.lines.items; used = c.self.inside.used; bank = c.self.inside.bank.items } in
     let lt : c.place_of-at.result < length q.bank = omega (arith, c.self.invariant.0) in
     takes_part q c.args.self.now c.args.processor c.args.slot c.place_of-at.result (λ p. settled p (outcome_of c.args.shown.now)) c.settle.new.bank.items c.requires.slot c.place_of-at.ensures.place lt
     c.settle.ensures.takes c.self.view_is
