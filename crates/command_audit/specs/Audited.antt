@@ -9,12 +9,11 @@ use Rattle.command_input.specs.declared.status.Status.TheVariants.{Done, HostFau
 use Rattle.command_input.specs.declared.status.PortFault.TheVariants.{Write}
 use Rattle.command_input.specs.Answer.{InputFails}
 use Rattle.command_input.specs.Input.{Ports, InputRead, IsUnpushed, NoneFailed, OnePushFailed, loaded}
-use Rattle.command_run.specs.Headline.{live_after}
+use Rattle.command_run.specs.Headline.{low_live}
 use Rattle.command_run.specs.Shows.{OthersStay}
 use Rattle.config_text.specs.declared.config.Config.{Config as ConfigText}
 use Rattle.host_ports.specs.Ports.{IsPrefixTaken, with_bytes}
 use Rattle.loader.specs.Records.{Volumes}
-use Rattle.machine.specs.Low.{low_events}
 use Rattle.report.specs.Printing.{Pushed, Torn}
 use Rattle.schedule.specs.Schedule.{events_of}
 
@@ -28,10 +27,6 @@ pub record AuditOf (class : ℕ) (before after : Ports) : Type 0 where
 -- what is due to port 0: the lines of the trail of what is at or below the class
 abbrev pub trail_due : ℕ → ConfigText → Volumes → List ℕ
 trail_due class k vs = lines_text (low_trail class (loaded k vs) (events_of k))
-
--- a process at or below the class is live after the events at or below it, where nothing else is given
-abbrev pub low_live : ℕ → ConfigText → Volumes → Bool
-low_live class k vs = live_after (low_config class (loaded k vs)) (low_events k.table class (events_of k))
 
 -- each access of the trail is allowed by the labels and brackets that segments were given
 abbrev pub low_allowed : ℕ → ConfigText → Volumes → Bool

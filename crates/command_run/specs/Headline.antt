@@ -3,15 +3,20 @@ use Rattle.std.specs.Prelude.{ℕ, Bool, List, length}
 use Rattle.std.specs.List.{flat_map, list_any}
 use Rattle.lists.specs.Lists.{below}
 use Rattle.words_layout.specs.declared.op.Event.{Event}
-use Rattle.class_model.specs.Config.{Config}
+use Rattle.class_model.specs.Config.{Config, low_config}
 use Rattle.class_model.specs.Run.{run}
 use Rattle.class_model.specs.Volume.{volume}
+use Rattle.config_text.specs.declared.config.Config.{Config as ConfigText}
+use Rattle.machine.specs.Low.{low_events}
 use Rattle.machine.specs.Machine.{Machine, is_live}
 use Rattle.machine.specs.Opening.{machine, effects}
 use Rattle.report.specs.Reported.{section}
 use Rattle.report_laws.specs.Shown.{low_section}
 use Rattle.volume_image.specs.Written.{written}
 use Rattle.loader.specs.After.{records_after, tree_of_words}
+use Rattle.loader.specs.Records.{Volumes}
+use Rattle.schedule.specs.Schedule.{events_of}
+use Rattle.command_input.specs.Input.{loaded}
 
 -- The report: what each class is shown, in the order of the classes. `low_section` is the section of the machine of whole
 -- instructions, given only the configuration at or below the class and the order in which the steps of words at or below it
@@ -39,3 +44,7 @@ class_live m c = list_any (λ p. list_any is_live ((m.part c).vp p).slots) (belo
 -- some process is live after all events
 abbrev pub live_after : Config → List Event → Bool
 live_after k events = list_any (class_live (machine k events)) (below (length k.table))
+
+-- a process at or below the class is live after the events at or below it, where nothing else is given
+abbrev pub low_live : ℕ → ConfigText → Volumes → Bool
+low_live class k vs = live_after (low_config class (loaded k vs)) (low_events k.table class (events_of k))

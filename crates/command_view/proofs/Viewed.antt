@@ -1,111 +1,78 @@
 -- What printing a section shows, seen from where the input was read.
-use Rattle.std.proofs.Common.{◌≡◌, ℕ, zero, suc, ◌≤◌, Bool, true, false, List, [], ◌∷◌, Some, Err, refl, sym, ap, subst, ◌∙◌, arith, length}
+use Rattle.std.proofs.Common.{◌≡◌, ℕ, ◌≤◌, Bool, true, false, Some, Err, refl, sym, ap, subst, ◌∙◌, length}
 use Rattle.std.specs.List.{list_any}
 use Rattle.lists.specs.Lists.{below}
-use Rattle.words_layout.specs.declared.op.Event.{Event}
-use Rattle.class_model.specs.Config.{Config, classes, low_config}
+use Rattle.class_model.specs.Config.{classes, low_config}
 use Rattle.class_model.specs.Valid.{IsConfig}
 use Rattle.machine.specs.Low.{low_events}
-use Rattle.machine.specs.Machine.{Machine, step, run}
-use Rattle.machine.specs.Opening.{machine, opening}
+use Rattle.machine.specs.Machine.{Machine}
+use Rattle.machine.specs.Opening.{machine}
 use Rattle.report.specs.Reported.{section}
 use Rattle.report_laws.specs.Shown.{ShowsByLowParts}
 use Rattle.effect_laws.specs.Laws.{SectionsAreLow}
 use Rattle.schedule.specs.Schedule.{events_of}
 use Rattle.command_run.specs.Headline.{class_live}
-use Rattle.host_ports.specs.Ports.{Port, Told, IsPrefixTaken, PushKeeps, with_bytes}
+use Rattle.host_ports.specs.Ports.{PushKeeps}
 use Rattle.config_text.specs.declared.config.Config.{Config as ConfigText}
 use Rattle.command_input.specs.declared.status.Status.{Status}
 use Rattle.command_input.specs.declared.status.Status.TheVariants.{Done, HostFault, Unfinished}
 use Rattle.command_input.specs.declared.status.PortFault.TheVariants.{Write}
 use Rattle.command_input.specs.Answer.{PortsShow}
-use Rattle.command_input.specs.Input.{Ports, IsUnpushed, OnePushFailed, InputHad, loaded}
-use Rattle.command_input.proofs.Failures.{none_on, none_push, push_none, push_one}
-use Rattle.command_input.proofs.Reading.{reads_kept}
+use Rattle.command_input.specs.Input.{Ports, OnePushFailed, InputHad, loaded}
 use Rattle.command_run.specs.Printed.{answer_of}
-use Rattle.command_run.specs.Shows.{OthersStay}
 use Rattle.command_run.proofs.Ran.{load_fails}
+use Rattle.command_run.proofs.Reports.{machine_live}
+use Rattle.command_run.proofs.SinceRead.{Kept, kept, taken_in_all, torn_in_all, none_failed, one_failed}
 use Rattle.loader.specs.declared.loading.LoadError.{LoadError}
 use Rattle.loader.specs.declared.loading.LoadError.TheVariants as error
 use Rattle.loader.specs.Records.{Volumes, Loads}
 use Rattle.loader.specs.Refusals.{IsRefusedRightly}
 use Rattle.report.specs.Printing.{Pushed, Torn}
-use Rattle.command_view.specs.Viewed.{ViewOf, Viewed, ViewedUpTo, ViewEnds, PrintsView, ViewShows, section_due, low_live}
+use Rattle.command_view.specs.Viewed.{ViewOf, Viewed, ViewedUpTo, ViewEnds, PrintsView, ViewShows, section_due}
 
 -- ---- what is printed
 
--- no event changes what is shared
-run_shared : (events : List Event) (m : Machine) → (run m events).shared ≡ m.shared
-run_shared [] m = refl
-run_shared (e ∷ events) m = run_shared events (step m e)
+module _ (class : ℕ) (k : ConfigText) (vs : Volumes) (m : Machine) (same : m ≡ machine (low_config class (loaded k vs)) (low_events k.table class (events_of k)))
+    (sections : SectionsAreLow) (parts : ShowsByLowParts) (valid : IsConfig (loaded k vs)) (few : length (events_of k) ≤ 4194304) where
+  whole : section class (machine (loaded k vs) (events_of k)) ≡ section_due class k vs
+  whole = sections (loaded k vs) (events_of k) valid few class
 
-module _ (class : ℕ) (k : ConfigText) (vs : Volumes) (m : Machine) (same : m ≡ machine (low_config class (loaded k vs)) (low_events k.table class (events_of k))) where
-  abbrev low : Config
-  low = low_config class (loaded k vs)
+  pub section_is : section class m ≡ section_due class k vs
+  section_is = ap (section class) same ∙ (sym (parts (loaded k vs) valid (events_of k) class) ∙ whole)
 
-  abbrev there : List Event
-  there = low_events k.table class (events_of k)
-
-  pub count : classes m.shared ≡ length k.table
-  count = ap (λ (x : Machine). classes x.shared) same ∙ ap classes (run_shared there (opening low))
-
-  pub live_is : list_any (class_live m) (below (classes m.shared)) ≡ low_live class k vs
-  live_is = ap (λ n. list_any (class_live m) (below n)) count ∙ ap (λ (x : Machine). list_any (class_live x) (below (length k.table))) same
-
-  module _ (sections : SectionsAreLow) (parts : ShowsByLowParts) (valid : IsConfig (loaded k vs)) (few : length (events_of k) ≤ 4194304) where
-    whole : section class (machine (loaded k vs) (events_of k)) ≡ section_due class k vs
-    whole = sections (loaded k vs) (events_of k) valid few class
-
-    pub section_is : section class m ≡ section_due class k vs
-    section_is = ap (section class) same ∙ (sym (parts (loaded k vs) valid (events_of k) class) ∙ whole)
-
-    pub view_ends : (live : Bool) → list_any (class_live m) (below (classes m.shared)) ≡ live → ViewEnds class k vs live
-    view_ends live e = record { machine = whole; live_is = sym live_is ∙ e }
+  pub view_ends : (live : Bool) → list_any (class_live m) (below (classes m.shared)) ≡ live → ViewEnds class k vs live
+  view_ends live e = record { machine = whole; live_is = sym (machine_live (low_config class (loaded k vs)) (low_events k.table class (events_of k)) m same) ∙ e }
 
 -- ---- from where the input was read on
 
-push_left : (before after : Ports) → PushKeeps 0 before after → (p : ℕ) → (after p).left ≡ (before p).left
-push_left before after keeps zero = keeps.left
-push_left before after keeps (suc p) = ap (λ (x : Port). x.left) (keeps.others (suc p) (λ e. cc))
-
 module _ (class : ℕ) (before now after : Ports) (k : ConfigText) (vs : Volumes) (had : InputHad (Some class) before now k vs) (loads : Loads k vs) where
-  view_of : PushKeeps 0 now after → ViewOf class before after
-  view_of keeps = record {
-    config = k;
-    volumes = vs;
-    input = record { reads = reads_kept 5 before now after k vs (push_left now after keeps) had.reads; valid = had.volumes; loads = loads };
-    among = had.among;
-  }
+  view_of : Kept before after k vs → ViewOf class before after
+  view_of same = record { config = k; volumes = vs; input = same.input; among = had.among }
 
-  unpushed : PushKeeps 0 now after → (p : ℕ) → 1 ≤ p → IsUnpushed (before p) (after p)
-  unpushed keeps p some =
-      let same = keeps.others p (λ e. absurd (omega (arith, e, some))) in
-      (ap (λ (x : Port). x.taken) same ∙ had.silent.taken p, ap (λ (x : Port). x.pushes) same ∙ had.silent.pushes p)
-
-  others_stay : PushKeeps 0 now after → OthersStay k before after
-  others_stay keeps p some none = keeps.others p some ∙ had.others p some none
+  since : PushKeeps 0 now after → Kept before after k vs
+  since = kept (Some class) before now after k vs had loads
 
   viewed : (live : Bool) → Pushed now after (section_due class k vs) → ViewEnds class k vs live → Viewed class live before after
   unfolding view_of
-  viewed live f e = record {
-    view = view_of f.keeps;
-    text = f.taken ∙ ap (λ (t : Told). with_bytes t (section_due class k vs)) (had.silent.taken 0);
+  viewed live f e = let same = since f.keeps in record {
+    view = view_of same;
+    text = taken_in_all (Some class) before now after k vs had 0 (section_due class k vs) f.taken;
     machine = e.machine;
     ended = e.live_is;
-    images = unpushed f.keeps;
-    others = others_stay f.keeps;
-    none = none_on before now after had.none (push_none 0 now after f.keeps f.stays);
+    images = same.images;
+    others = same.others;
+    none = none_failed (Some class) before now after k vs had (section_due class k vs) f;
   }
 
   viewed_up_to : Torn now after (section_due class k vs) → ViewedUpTo class 0 before after
   unfolding view_of
-  viewed_up_to f = record {
+  viewed_up_to f = let same = since f.keeps in record {
     zero = refl;
-    view = view_of f.keeps;
-    torn = subst (λ (t : Told). IsPrefixTaken t (after 0).taken (section_due class k vs)) (had.silent.taken 0) f.taken;
-    images = unpushed f.keeps;
-    others = others_stay f.keeps;
-    one = none_push 0 before now after had.none (push_one 0 now after f.keeps f.rose);
+    view = view_of same;
+    torn = torn_in_all (Some class) before now after k vs had 0 (section_due class k vs) f.taken;
+    images = same.images;
+    others = same.others;
+    one = one_failed (Some class) before now after k vs had (section_due class k vs) f;
   }
 
   pub view_shows : (s : Status) → PrintsView class k vs now after s → ViewShows class before after s

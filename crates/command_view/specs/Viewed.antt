@@ -1,17 +1,15 @@
 -- What the command `view` answers: each answer with all that holds where it is given.
 use Rattle.std.specs.Prelude.{◌≡◌, ◌<◌, ◌≤◌, ℕ, Bool, true, false, List, length, Some}
-use Rattle.class_model.specs.Config.{low_config}
 use Rattle.command_input.specs.declared.status.Status.{Status}
 use Rattle.command_input.specs.declared.status.Status.TheVariants.{Done, HostFault, Unfinished}
 use Rattle.command_input.specs.declared.status.PortFault.TheVariants.{Write}
 use Rattle.command_input.specs.Answer.{InputFails}
 use Rattle.command_input.specs.Input.{Ports, InputRead, IsUnpushed, NoneFailed, OnePushFailed, loaded}
-use Rattle.command_run.specs.Headline.{live_after}
+use Rattle.command_run.specs.Headline.{low_live}
 use Rattle.command_run.specs.Shows.{OthersStay}
 use Rattle.config_text.specs.declared.config.Config.{Config as ConfigText}
 use Rattle.host_ports.specs.Ports.{IsPrefixTaken, with_bytes}
 use Rattle.loader.specs.Records.{Volumes}
-use Rattle.machine.specs.Low.{low_events}
 use Rattle.machine.specs.Opening.{machine}
 use Rattle.report.specs.Printing.{Pushed, Torn}
 use Rattle.report.specs.Reported.{section}
@@ -28,10 +26,6 @@ pub record ViewOf (class : ℕ) (before after : Ports) : Type 0 where
 -- what is due to port 0: the section of the class that `sim` prints for the same input
 abbrev pub section_due : ℕ → ConfigText → Volumes → List ℕ
 section_due class k vs = low_section (loaded k vs) (events_of k) class
-
--- a process at or below the class is live after the events at or below it, where nothing else is given
-abbrev pub low_live : ℕ → ConfigText → Volumes → Bool
-low_live class k vs = live_after (low_config class (loaded k vs)) (low_events k.table class (events_of k))
 
 -- The section was printed whole, and a process at or below the class is live after the events there, or none is. It is also what
 -- the step machine shows of the class after all events of the schedule.

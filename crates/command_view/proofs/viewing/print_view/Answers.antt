@@ -1,17 +1,22 @@
 use Rattle.std.proofs.Common.{refl, sym, ◌∙◌, arith}
+use Rattle.class_model.specs.Config.{low_config}
 use Rattle.class_model.specs.Valid.{IsConfig}
 use Rattle.config_text.specs.declared.config.Config.{Config as ConfigText}
 use Rattle.loader.specs.Records.{Volumes}
+use Rattle.machine.specs.Low.{low_events}
 use Rattle.machine.specs.Machine.{Machine}
 use Rattle.machine.specs.Banks.{machine_of}
+use Rattle.schedule.specs.Schedule.{events_of}
 use Rattle.report.proofs.Texts.{pushed_as, torn_as}
 use Rattle.command_input.specs.Input.{loaded}
-use Rattle.command_view.proofs.Viewed.{count, section_is, view_ends}
+use Rattle.command_run.proofs.Reports.{count}
+use Rattle.command_view.proofs.Viewed.{section_is, view_ends}
 use Rattle.command_view.proofs.viewing.print_view.Goals as goal
 
 pub section-requires : goal.section-requires
 section-requires g c =
-    let n = count c.args.class c.args.input.now.config c.args.input.now.volumes.items (machine_of c.args.machine.now) c.requires.machine in
+    let k : ConfigText = c.args.input.now.config in
+    let n = count (low_config c.args.class (loaded k c.args.input.now.volumes.items)) (low_events k.table c.args.class (events_of k)) (machine_of c.args.machine.now) c.requires.machine in
     omega (arith, n, c.requires.class)
 
 pub returns-in-Err : goal.returns-in-Err
