@@ -20,17 +20,12 @@ pub no_plan : (e : PlanError) (q : Plan) → (let answer : Result Plan PlanError
 no_plan e q h = cc
 
 -- what is shown of the plan of the words is shown of each that they ask for
-pub as_asked : (p q : Plan) (before after : Ports) (s : Status) → p ≡ q → SimMainShows p before after s → SimMainShows q before after s
-as_asked p q before after s e o = subst (λ (x : Plan). SimMainShows x before after s) e o
+pub as_asked : (Shows : Plan → Ports → Ports → Status → Type 0) (p q : Plan) (before after : Ports) (s : Status) → (let answer : Result Plan PlanError = Ok p in answer ≡ Ok q) → Shows p before after s → Shows q before after s
+as_asked Shows p q before after s e o = subst (λ (x : Plan). Shows x before after s) (one_plan p q e) o
 
-pub as_asked_threaded : (p q : Plan) (before after : Ports) (s : Status) → p ≡ q → KernelMainShows p before after s → KernelMainShows q before after s
-as_asked_threaded p q before after s e o = subst (λ (x : Plan). KernelMainShows x before after s) e o
-
-pub as_asked_any : {D : Type 0} (d : Sight D) (p q : Plan) (before after : Ports) (old new : D) (s : Status) → p ≡ q → StoreMainShows d p before after old new s → StoreMainShows d q before after old new s
-as_asked_any d p q before after old new s e o = subst (λ (x : Plan). StoreMainShows d x before after old new s) e o
-
-pub as_asked_stored : {D : Type 0} (d : Sight D) (p q : Plan) (before after : Ports) (old new : D) (s : Status) → p ≡ q → SaveMainShows d p before after old new s → SaveMainShows d q before after old new s
-as_asked_stored d p q before after old new s e o = subst (λ (x : Plan). SaveMainShows d x before after old new s) e o
+pub as_asked_stored : {D : Type 0} (Shows : Plan → Ports → Ports → D → D → Status → Type 0) (p q : Plan) (before after : Ports) (old new : D) (s : Status) → (let answer : Result Plan PlanError = Ok p in answer ≡ Ok q) → Shows p before after old new s →
+    Shows q before after old new s
+as_asked_stored Shows p q before after old new s e o = subst (λ (x : Plan). Shows x before after old new s) (one_plan p q e) o
 
 -- words with a fault
 pub faulty : (IsOther : Plan → Type 0) (words : List (List ℕ)) (before after : Ports) (kind : ℕ) → first_code (kinds words) ≡ Some kind → ((q : Plan) → Accepts words q → ⊥) → Untouched before after → UsageShows IsOther words before after (Usage kind)

@@ -15,19 +15,19 @@ returns-in-Err-clause-usage g c =
     (faulty NeedsNoDisk (views c.args.words.now) _ _ c.fault_kind.result ((c.in-Err.ensures.refuses c.fault_kind.result).0 (ap Err c.fault_kind.ensures)) (λ q h. no_plan _ q ((c.in-Err.ensures.accepts q).1 h)) (λ p. refl), refl)
 
 pub returns-in-Ok-clause-save : goal.returns-in-Ok-clause-save
-returns-in-Ok-clause-save g c = λ h. as_asked_stored _ c.in-Ok.plan Save _ _ _ _ _ (one_plan c.in-Ok.plan Save ((c.in-Ok.ensures.accepts Save).1 h)) c.carry_out_stored.ensures.shows
+returns-in-Ok-clause-save g c = λ h. as_asked_stored (SaveMainShows _) c.in-Ok.plan Save _ _ _ _ _ ((c.in-Ok.ensures.accepts Save).1 h) c.carry_out_stored.ensures.shows
 
 pub returns-in-Err-clause-save : goal.returns-in-Err-clause-save
 returns-in-Err-clause-save g c = λ h. absurd (no_plan _ Save ((c.in-Err.ensures.accepts Save).1 h))
 
 pub returns-in-Ok-clause-restore : goal.returns-in-Ok-clause-restore
-returns-in-Ok-clause-restore g c = λ h. as_asked_stored _ c.in-Ok.plan Restore _ _ _ _ _ (one_plan c.in-Ok.plan Restore ((c.in-Ok.ensures.accepts Restore).1 h)) c.carry_out_stored.ensures.shows
+returns-in-Ok-clause-restore g c = λ h. as_asked_stored (SaveMainShows _) c.in-Ok.plan Restore _ _ _ _ _ ((c.in-Ok.ensures.accepts Restore).1 h) c.carry_out_stored.ensures.shows
 
 pub returns-in-Err-clause-restore : goal.returns-in-Err-clause-restore
 returns-in-Err-clause-restore g c = λ h. absurd (no_plan _ Restore ((c.in-Err.ensures.accepts Restore).1 h))
 
 pub returns-in-Ok-clause-complete : goal.returns-in-Ok-clause-complete
-returns-in-Ok-clause-complete g c = λ q h. stored_completes _ _ _ _ _ q _ (as_asked_stored _ c.in-Ok.plan q _ _ _ _ _ (one_plan c.in-Ok.plan q ((c.in-Ok.ensures.accepts q).1 h)) c.carry_out_stored.ensures.shows) c.carry_out_stored.ensures.ports
+returns-in-Ok-clause-complete g c = λ q h. stored_completes _ _ _ _ _ q _ (as_asked_stored (SaveMainShows _) c.in-Ok.plan q _ _ _ _ _ ((c.in-Ok.ensures.accepts q).1 h) c.carry_out_stored.ensures.shows) c.carry_out_stored.ensures.ports
 
 pub returns-in-Err-clause-complete : goal.returns-in-Err-clause-complete
 returns-in-Err-clause-complete g c = λ q h. absurd (no_plan _ q ((c.in-Err.ensures.accepts q).1 h))
