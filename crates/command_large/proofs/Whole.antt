@@ -1,9 +1,8 @@
 -- What printing the summary shows.
-use Rattle.std.proofs.Common.{◌≡◌, ℕ, ◌≤◌, Bool, List, [], ◌∷◌, length, refl, sym, ap, subst, ◌∙◌}
+use Rattle.std.proofs.Common.{◌≡◌, ℕ, ◌≤◌, Bool, length, refl, sym, ap, subst, ◌∙◌}
 use Rattle.std.specs.List.{list_any}
 use Rattle.lists.specs.Lists.{below}
-use Rattle.words_layout.specs.declared.op.Event.{Event}
-use Rattle.class_model.specs.Config.{Config, classes}
+use Rattle.class_model.specs.Config.{classes}
 use Rattle.class_model.specs.Valid.{IsConfig}
 use Rattle.command_input.specs.declared.status.Status.{Status}
 use Rattle.command_input.specs.declared.status.Status.TheVariants.{Done, HostFault, Unfinished, NoMemory}
@@ -11,25 +10,15 @@ use Rattle.command_input.specs.declared.status.PortFault.TheVariants.{Write}
 use Rattle.command_input.specs.Answer.{PortsShow}
 use Rattle.command_input.specs.Input.{Ports, Untouched, NothingPushed, OnePushFailed}
 use Rattle.command_input.proofs.Failures.{untouched_none, push_none, push_one}
-use Rattle.command_run.specs.Headline.{class_live, live_after}
+use Rattle.command_run.specs.Headline.{class_live}
+use Rattle.command_run.proofs.Reports.{machine_live}
 use Rattle.host_ports.specs.Ports.{Port}
-use Rattle.machine.specs.Machine.{Machine, step, run}
-use Rattle.machine.specs.Opening.{machine, opening}
+use Rattle.machine.specs.Machine.{Machine}
+use Rattle.machine.specs.Opening.{machine}
 use Rattle.report.specs.Printing.{Pushed, Torn}
 use Rattle.summary.specs.Laws.{SummariesAgree}
 use Rattle.summary.specs.Summary.{machine_summary}
 use Rattle.command_large.specs.Summed.{large_data, large_events, summary_due, Summed, SummedUpTo, LargeShows}
-
--- no event changes what is shared
-run_shared : (events : List Event) (m : Machine) → (run m events).shared ≡ m.shared
-run_shared [] m = refl
-run_shared (e ∷ events) m = run_shared events (step m e)
-
--- who is live in the machine after the events is live after them
-live_is : (k : Config) (events : List Event) (m : Machine) → m ≡ machine k events → list_any (class_live m) (below (classes m.shared)) ≡ live_after k events
-live_is k events m same =
-    ap (λ (x : Machine). list_any (class_live x) (below (classes x.shared))) same
-    ∙ ap (λ n. list_any (class_live (machine k events)) (below n)) (ap classes (run_shared events (opening k)))
 
 module _ (number : ℕ) (m : Machine) (same : m ≡ machine (large_data number) (large_events number)) (agree : SummariesAgree) (valid : IsConfig (large_data number)) (few : length (large_events number) ≤ 4194304) where
   agrees : machine_summary number (machine (large_data number) (large_events number)) ≡ summary_due number
@@ -43,7 +32,7 @@ module _ (number : ℕ) (m : Machine) (same : m ≡ machine (large_data number) 
     summed live pushed e = let p = subst (Pushed before after) told pushed in record {
       text = p.taken;
       machine = agrees;
-      ended = sym (live_is (large_data number) (large_events number) m same) ∙ e;
+      ended = sym (machine_live (large_data number) (large_events number) m same) ∙ e;
       only = record { left = p.keeps.left; others = p.keeps.others };
       none = push_none 0 before after p.keeps p.stays;
     }

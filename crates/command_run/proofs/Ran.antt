@@ -13,17 +13,17 @@ use Rattle.loader.specs.declared.loading.LoadError.{LoadError}
 use Rattle.loader.specs.declared.loading.LoadError.TheVariants as error
 use Rattle.loader.specs.Records.{Volumes, Loads, IsLoadFault, named_by}
 use Rattle.loader.specs.Refusals.{IsRefusedRightly}
-use Rattle.report.specs.Printing.{Pushed, Torn}
+use Rattle.report.specs.Printing.{Pushed}
 use Rattle.loader.proofs.Records.{loaded_config}
 use Rattle.whole_runs.proofs.Right.{run_is_right}
 use Rattle.command_input.specs.Answer.{InputFails, PortsShow}
 use Rattle.command_input.specs.Input.{Ports, IsUnpushed, NoneFailed, OnePushFailed, InputHad, loaded}
 use Rattle.command_input.proofs.Failing.{no_load, no_memory}
-use Rattle.command_input.proofs.Failures.{none_on, none_push, push_none, push_one}
-use Rattle.command_input.proofs.Reading.{reads_kept}
+use Rattle.command_input.proofs.Failures.{none_on, none_push, push_one}
 use Rattle.command_run.specs.Headline.{report_of}
 use Rattle.command_run.specs.Shows.{RunOf, Ran, RanUpTo, RunShows, BreaksAt, IsDue, OthersStay, due}
 use Rattle.command_run.specs.Printed.{ImageTorn, AllPushed, SomeTorn, RunEnds, Ends, answer_of}
+use Rattle.command_run.proofs.SinceRead.{push_left, input_read, others_stay, taken_in_all, torn_in_all, unpushed, kept, none_failed, one_failed}
 
 -- ---- what printing leaves as it was
 
@@ -32,16 +32,8 @@ record Keeps (k : ConfigText) (before after : Ports) : Type 0 where
   left : (p : ℕ) → (after p).left ≡ (before p).left
   others : OthersStay k before after
 
-pushed_left : (before after : Ports) (text : List ℕ) → Pushed before after text → (p : ℕ) → (after p).left ≡ (before p).left
-pushed_left before after text f zero = f.keeps.left
-pushed_left before after text f (suc p) = ap (λ (x : Port). x.left) (f.keeps.others (suc p) (λ e. cc))
-
-torn_left : (before after : Ports) (text : List ℕ) → Torn before after text → (p : ℕ) → (after p).left ≡ (before p).left
-torn_left before after text f zero = f.keeps.left
-torn_left before after text f (suc p) = ap (λ (x : Port). x.left) (f.keeps.others (suc p) (λ e. cc))
-
 report_keeps : (k : ConfigText) (before after : Ports) (text : List ℕ) → Pushed before after text → Keeps k before after
-report_keeps k before after text f = record { left = pushed_left before after text f; others = λ p some none. f.keeps.others p some }
+report_keeps k before after text f = record { left = push_left before after f.keeps; others = λ p some none. f.keeps.others p some }
 
 image_left : (n : ℕ) (k : ConfigText) (images : ℕ → List ℕ) (before after : Ports) → ImageTorn n k images before after → (p : ℕ) → (after p).left ≡ (before p).left
 image_left n k images before after f p = by p (cases_eq p n)
@@ -55,7 +47,7 @@ keeps_on k before middle after f g = record { left = λ p. g.left p ∙ f.left p
 
 module _ (k : ConfigText) (vs : Volumes) (events : List Event) (before after : Ports) where
   torn_keeps : (n : ℕ) → SomeTorn n k vs events before after → Keeps k before after
-  torn_keeps n (inl (z, f)) = record { left = torn_left before after (report_of (loaded k vs) events) f; others = λ p some none. f.keeps.others p some }
+  torn_keeps n (inl (z, f)) = record { left = push_left before after f.keeps; others = λ p some none. f.keeps.others p some }
   torn_keeps n (inr (middle, f, g, e)) = keeps_on k before middle after (report_keeps k before middle (report_of (loaded k vs) events) f) (record {
     left = image_left n k (due k vs events) middle after g;
     others = λ p some none. g.keeps.others p (λ e. none (subst (Contains (named_by k)) (sym e) g.named)) ∙ g.pushed.others p (λ h. none h.2);
@@ -73,36 +65,34 @@ module _ (IsOrder : ConfigText → Volumes → List Event → Type 0) (before no
   run_of keeps = record {
     config = k;
     volumes = vs;
-    input = record { reads = reads_kept 5 before now after k vs keeps.left had.reads; valid = had.volumes; loads = loads };
+    input = input_read None before now after k vs had loads keeps.left;
     events = events;
     order = order;
     few = few;
     right = run_is_right (loaded k vs) events (loaded_config k had.valid vs had.volumes loads) few;
   }
 
-  others_stay : Keeps k now after → OthersStay k before after
-  others_stay keeps p some none = keeps.others p some none ∙ had.others p some none
+  stay : Keeps k now after → OthersStay k before after
+  stay keeps = others_stay None before now after k vs had keeps.others
 
-  -- what a port takes after the input was read, it takes in all
-  taken_in_all : (p : ℕ) (bytes : List ℕ) → (after p).taken ≡ with_bytes (now p).taken bytes → (after p).taken ≡ with_bytes (before p).taken bytes
-  taken_in_all p bytes e = e ∙ ap (λ (t : Told). with_bytes t bytes) (had.silent.taken p)
+  in_all : (p : ℕ) (bytes : List ℕ) → (after p).taken ≡ with_bytes (now p).taken bytes → (after p).taken ≡ with_bytes (before p).taken bytes
+  in_all = taken_in_all None before now after k vs had
+
+  stays : (p : ℕ) → after p ≡ now p → IsUnpushed (before p) (after p)
+  stays = unpushed None before now after k vs had
 
   abbrev report : List ℕ
   report = report_of (loaded k vs) events
 
   report_taken : AllPushed k vs events now after → (after 0).taken ≡ with_bytes (before 0).taken report
-  report_taken f = taken_in_all 0 report (ap (λ (x : Port). x.taken) (f.images.others 0 (λ h. (let some = h.0 in absurd (omega arith)))) ∙ f.report.taken)
+  report_taken f = in_all 0 report (ap (λ (x : Port). x.taken) (f.images.others 0 (λ h. (let some = h.0 in absurd (omega arith)))) ∙ f.report.taken)
 
   image_taken : AllPushed k vs events now after → (p : ℕ) → 1 ≤ p → p < 5 → Contains (named_by k) p → (after p).taken ≡ with_bytes (before p).taken (due k vs events p)
-  image_taken f p some lt named = taken_in_all p (due k vs events p)
+  image_taken f p some lt named = in_all p (due k vs events p)
       (f.images.taken p some lt named ∙ ap (λ (x : Port). with_bytes x.taken (due k vs events p)) (f.report.keeps.others p (λ e. absurd (omega (arith, e, some)))))
 
-  -- a port that is as it was when the input was read
-  unpushed : (p : ℕ) → after p ≡ now p → IsUnpushed (before p) (after p)
-  unpushed p same = (ap (λ (x : Port). x.taken) same ∙ had.silent.taken p, ap (λ (x : Port). x.pushes) same ∙ had.silent.pushes p)
-
   pushed_none : (middle : Ports) (text : List ℕ) → Pushed now middle text → NoneFailed before middle
-  pushed_none middle text f = none_on before now middle had.none (push_none 0 now middle f.keeps f.stays)
+  pushed_none middle = none_failed None before now middle k vs had
 
   -- ---- printed whole
 
@@ -114,7 +104,7 @@ module _ (IsOrder : ConfigText → Volumes → List Event → Type 0) (before no
     machine = e.report;
     ended = e.live_is;
     images = image_taken f;
-    others = others_stay (all_keeps k vs events now after f);
+    others = stay (all_keeps k vs events now after f);
     none = none_on before f.middle after (pushed_none f.middle report f.report) f.images.none;
   }
 
@@ -122,11 +112,11 @@ module _ (IsOrder : ConfigText → Volumes → List Event → Type 0) (before no
   unfolding run_of
   report_printed f e = record {
     run = run_of (report_keeps k now after report f);
-    report = taken_in_all 0 report f.taken;
+    report = in_all 0 report f.taken;
     machine = e.report;
     ended = e.live_is;
-    images = λ p some. unpushed p (f.keeps.others p (λ e. absurd (omega (arith, e, some))));
-    others = others_stay (report_keeps k now after report f);
+    images = (kept None before now after k vs had loads f.keeps).images;
+    others = stay (report_keeps k now after report f);
     none = pushed_none after report f;
   }
 
@@ -135,7 +125,7 @@ module _ (IsOrder : ConfigText → Volumes → List Event → Type 0) (before no
   -- an image is torn
   module _ (port : ℕ) (reported : Ports) (f : Pushed now reported report) (g : ImageTorn port k (due k vs events) reported after) (end : RunEnds k vs events false) where
     report_whole : (after 0).taken ≡ with_bytes (before 0).taken report
-    report_whole = taken_in_all 0 report
+    report_whole = in_all 0 report
         (ap (λ (x : Port). x.taken) (g.keeps.others 0 (λ e. (let some = g.some in absurd (omega (arith, e, some)))) ∙ g.pushed.others 0 (λ h. (let some = h.0 in absurd (omega arith)))) ∙ f.taken)
 
     -- a port other than port 0 was as it was when the input was read
@@ -143,7 +133,7 @@ module _ (IsOrder : ConfigText → Volumes → List Event → Type 0) (before no
     was p some = f.keeps.others p (λ e. absurd (omega (arith, e, some)))
 
     whole_named : (p : ℕ) → 1 ≤ p → p < port → Contains (named_by k) p → (after p).taken ≡ with_bytes (before p).taken (due k vs events p)
-    whole_named p some lt named = taken_in_all p (due k vs events p)
+    whole_named p some lt named = in_all p (due k vs events p)
         (ap (λ (x : Port). x.taken) (g.keeps.others p (λ e. absurd (omega (arith, e, lt)))) ∙
         (g.pushed.taken p some lt named ∙ ap (λ (x : Port). with_bytes x.taken (due k vs events p)) (was p some)))
 
@@ -158,7 +148,7 @@ module _ (IsOrder : ConfigText → Volumes → List Event → Type 0) (before no
       torn = subst (λ (t : Told). IsPrefixTaken t (after port).taken (due k vs events port))
           (ap (λ (x : Port). x.taken) (g.pushed.others port (λ h. (let lt = h.1 in absurd (omega arith))) ∙ was port g.some) ∙ had.silent.taken port) g.torn;
       behind = λ p lt. (let some : 1 ≤ p = (let a = g.some in omega (arith, a, lt)) in
-          unpushed p (g.keeps.others p (λ e. absurd (omega (arith, e, lt))) ∙ (g.pushed.others p (λ h. (let less = h.1 in absurd (omega (arith, lt)))) ∙ was p some)));
+          stays p (g.keeps.others p (λ e. absurd (omega (arith, e, lt))) ∙ (g.pushed.others p (λ h. (let less = h.1 in absurd (omega (arith, lt)))) ∙ was p some)));
       is_due = inr g.named;
       ended = λ some. end.live_is;
     }
@@ -173,19 +163,19 @@ module _ (IsOrder : ConfigText → Volumes → List Event → Type 0) (before no
     port = omega arith;
     breaks = record {
       whole = λ p lt h. absurd (omega (arith, lt));
-      torn = subst (λ (t : Told). IsPrefixTaken t (after 0).taken report) (had.silent.taken 0) f.taken;
-      behind = λ p lt. unpushed p (f.keeps.others p (λ e. absurd (omega (arith, e, lt))));
+      torn = torn_in_all None before now after k vs had 0 report f.taken;
+      behind = (kept None before now after k vs had loads f.keeps).images;
       is_due = inl refl;
       ended = λ some. absurd (omega (arith, some));
     };
-    others = others_stay (torn_keeps k vs events now after 0 (inl (refl, f)));
-    one = none_push 0 before now after had.none (push_one 0 now after f.keeps f.rose);
+    others = stay (torn_keeps k vs events now after 0 (inl (refl, f)));
+    one = one_failed None before now after k vs had report f;
   })
   printed_up_to port (inr (reported, f, g, e)) = record {
     run = run_of (torn_keeps k vs events now after port (inr (reported, f, g, e)));
     port = g.most;
     breaks = torn_at port reported f g e;
-    others = others_stay (torn_keeps k vs events now after port (inr (reported, f, g, e)));
+    others = stay (torn_keeps k vs events now after port (inr (reported, f, g, e)));
     one = torn_one port reported f g e;
   }
 

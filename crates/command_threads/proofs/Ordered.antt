@@ -1,5 +1,5 @@
 -- The rounds that were taken are an order of word steps.
-use Rattle.std.proofs.Common.{◌≡◌, ℕ, ◌*◌, ◌<◌, ◌≤◌, List, [], ◌∷◌, length, take, refl, sym, ap, subst, ◌∙◌, arith}
+use Rattle.std.proofs.Common.{◌≡◌, ℕ, ◌*◌, ◌<◌, ◌≤◌, List, length, take, refl, sym, ap, subst, ◌∙◌, arith}
 use Rattle.std.proofs.lemmas.Nat.{mul-le}
 use Rattle.class_model.specs.Config.{Shared}
 use Rattle.command_input.specs.Input.{loaded}
@@ -7,20 +7,16 @@ use Rattle.config_text.specs.declared.config.Config.{Config}
 use Rattle.config_text.specs.Valid.{IsValid, max_events}
 use Rattle.loader.specs.Records.{Volumes}
 use Rattle.machine.specs.Banks.{State, machine_of}
-use Rattle.machine.specs.Machine.{Machine, step, run}
+use Rattle.machine.specs.Machine.{Machine, run}
 use Rattle.machine.specs.Opening.{machine, opening}
 use Rattle.round_laws.specs.Live.{SomeLive, NoneLive}
 use Rattle.round_laws.specs.Rounds.{IsRoundList, joined}
 use Rattle.schedule.proofs.Ranges.{header}
 use Rattle.words_layout.specs.declared.op.Event.{Event}
+use Rattle.command_run.proofs.Reports.{run_shared}
 use Rattle.command_threads.specs.Rounds.{plan_for, RanRounds}
 use Rattle.command_threads.specs.Orders.{IsRoundOrder, LeftByRounds}
 use Rattle.command_threads.proofs.Ranges.{few_rounds}
-
--- no event changes what is shared
-run_shared : (events : List Event) (m : Machine) → (run m events).shared ≡ m.shared
-run_shared [] m = refl
-run_shared (e ∷ events) m = run_shared events (step m e)
 
 module _ (k : Config) (vs : Volumes) (valid : IsValid k) (m n : State (List ℕ)) (taken : ℕ) (opens : machine_of m ≡ opening (loaded k vs)) (banks : length m.banks ≡ k.processors)
     (r : RanRounds k m n taken) where

@@ -9,7 +9,7 @@ use Rattle.command_input.specs.declared.status.Status.{Status}
 use Rattle.command_input.specs.declared.status.Status.TheVariants.{Usage}
 use Rattle.command_input.specs.Input.{Ports, Untouched}
 use Rattle.command_save.specs.Disks.{Sight}
-use Rattle.kernel_top.specs.Answer.{UsageShows, NotCarriedOut, SimMainShows, KernelMainShows, StoreMainShows, NeedsEither, NeedsDisk, IsNone}
+use Rattle.kernel_top.specs.Answer.{UsageShows, StoreUsageShows, NotCarriedOut, SimMainShows, KernelMainShows, SaveMainShows, StoreMainShows, NeedsEither, NeedsDisk, NeedsNoDisk, IsNone}
 
 -- of two plans that are one answer
 pub one_plan : (p q : Plan) → (let answer : Result Plan PlanError = Ok p in answer ≡ Ok q) → p ≡ q
@@ -20,14 +20,12 @@ pub no_plan : (e : PlanError) (q : Plan) → (let answer : Result Plan PlanError
 no_plan e q h = cc
 
 -- what is shown of the plan of the words is shown of each that they ask for
-pub as_asked : (p q : Plan) (before after : Ports) (s : Status) → p ≡ q → SimMainShows p before after s → SimMainShows q before after s
-as_asked p q before after s e o = subst (λ (x : Plan). SimMainShows x before after s) e o
+pub as_asked : (Shows : Plan → Ports → Ports → Status → Type 0) (p q : Plan) (before after : Ports) (s : Status) → (let answer : Result Plan PlanError = Ok p in answer ≡ Ok q) → Shows p before after s → Shows q before after s
+as_asked Shows p q before after s e o = subst (λ (x : Plan). Shows x before after s) (one_plan p q e) o
 
-pub as_asked_threaded : (p q : Plan) (before after : Ports) (s : Status) → p ≡ q → KernelMainShows p before after s → KernelMainShows q before after s
-as_asked_threaded p q before after s e o = subst (λ (x : Plan). KernelMainShows x before after s) e o
-
-pub as_asked_any : {D : Type 0} (d : Sight D) (p q : Plan) (before after : Ports) (old new : D) (s : Status) → p ≡ q → StoreMainShows d p before after old new s → StoreMainShows d q before after old new s
-as_asked_any d p q before after old new s e o = subst (λ (x : Plan). StoreMainShows d x before after old new s) e o
+pub as_asked_stored : {D : Type 0} (Shows : Plan → Ports → Ports → D → D → Status → Type 0) (p q : Plan) (before after : Ports) (old new : D) (s : Status) → (let answer : Result Plan PlanError = Ok p in answer ≡ Ok q) → Shows p before after old new s →
+    Shows q before after old new s
+as_asked_stored Shows p q before after old new s e o = subst (λ (x : Plan). Shows x before after old new s) (one_plan p q e) o
 
 -- words with a fault
 pub faulty : (IsOther : Plan → Type 0) (words : List (List ℕ)) (before after : Ports) (kind : ℕ) → first_code (kinds words) ≡ Some kind → ((q : Plan) → Accepts words q → ⊥) → Untouched before after → UsageShows IsOther words before after (Usage kind)
@@ -100,3 +98,25 @@ module _ {D : Type 0} (d : Sight D) (before after : Ports) (old new : D) where
   store_answered (Large number) s o = inl (λ h. h, kernel_own (Large number) before after s (λ h. h) o.0)
   store_answered (Audit class) s o = inl (λ h. h, kernel_own (Audit class) before after s (λ h. h) o.0)
   store_answered Guard s o = inl (λ h. h, kernel_own Guard before after s (λ h. h) o.0)
+
+  pub save_answered : (p : Plan) (s : Status) → SaveMainShows d p before after old new s → Answered NeedsNoDisk p before after s
+  save_answered Save s o = inl (λ h. h, never (SaveMainShows d Save before after old new) s (λ kind f. f.shows.0) o)
+  save_answered Restore s o = inl (λ h. h, never (SaveMainShows d Restore before after old new) s (λ kind f. f.shows.0) o)
+  save_answered _ s o = inr (tt, o.0)
+
+  -- Usage leaves the disk as it was
+  pub save_stays : (p : Plan) (kind : ℕ) → SaveMainShows d p before after old new (Usage kind) → new ≡ old
+  save_stays Save kind o = absurd o.shows.0
+  save_stays Restore kind o = absurd o.shows.0
+  save_stays _ kind o = o.1
+
+  pub store_stays : (p : Plan) (kind : ℕ) → StoreMainShows d p before after old new (Usage kind) → new ≡ old
+  store_stays Save kind o = absurd o.shows.0
+  store_stays Restore kind o = absurd o.shows.0
+  store_stays _ kind o = o.1
+
+-- the disk is as it was where that is shown at Usage
+pub with_disk : {D : Type 0} (IsOther : Plan → Type 0) (Shows : Status → Type 0) (words : List (List ℕ)) (before after : Ports) (old new : D) (s : Status) → ((kind : ℕ) → Shows (Usage kind) → new ≡ old) → Shows s →
+    UsageShows IsOther words before after s → StoreUsageShows IsOther words before after old new s
+with_disk IsOther Shows words before after old new (Usage kind) stays o u = (u, stays kind o)
+with_disk IsOther Shows words before after old new _ stays o u = u

@@ -37,11 +37,8 @@ use Rattle.volume_image.specs.Volumes.{Spells as SpellsVolume, IsFault as IsVolu
 use Rattle.volume_image.specs.Written.{written}
 use Rattle.volume_image.proofs.VolumeLaws.{one_volume, never_both as never_both_of_volume}
 use Rattle.words_layout.specs.declared.op.Event.{Event}
-use Rattle.kernel_top.specs.Answer.{SimMainShows, KernelMainShows, StoreMainShows}
-use Rattle.kernel_top.specs.Complete.{IsComplete, IsDone, RanOn, ViewedOn, AuditedOn, ShownOn, RunCompletes, ViewCompletes, AuditCompletes, ShowCompletes, LargeCompletes, IsGuardInput, GuardCompletes, SaveCompletes, KeepsVolume, RestoreCompletes, SimMainCompletes, KernelMainCompletes, StoreCompletes, StoreMainCompletes}
-use Rattle.kernel_top.specs.Store.{StoreShows}
-use Rattle.kernel_top.specs.declared.store.StoreCommand.{StoreCommand}
-use Rattle.kernel_top.specs.declared.store.StoreCommand.TheVariants as store
+use Rattle.kernel_top.specs.Answer.{SimMainShows, KernelMainShows, SaveMainShows, StoreMainShows}
+use Rattle.kernel_top.specs.Complete.{IsComplete, IsDone, RanOn, ViewedOn, AuditedOn, ShownOn, RunCompletes, ViewCompletes, AuditCompletes, ShowCompletes, LargeCompletes, IsGuardInput, GuardCompletes, SaveCompletes, KeepsVolume, RestoreCompletes, SimMainCompletes, KernelMainCompletes, SaveMainCompletes, StoreMainCompletes}
 
 -- ---- want of memory is complete
 
@@ -257,9 +254,10 @@ module _ {D : Type 0} (d : Sight D) (before after : Ports) (old new : D) where
   restore_completes other o ports k v has keeps none stays =
       memory_is_done ((after 1).taken ≡ with_bytes (before 1).taken (written k.table v)) other (config_memory before after k other has none o.0)
 
-  pub store_completes : (c : StoreCommand) (status : Status) → StoreShows d c before after old new status → PortsShow before after status → StoreCompletes d c before after old new status
-  store_completes store.Save status o ports = save_completes status o.shows
-  store_completes store.Restore status o ports = restore_completes status o.shows ports
+  pub stored_completes : (p : Plan) (status : Status) → SaveMainShows d p before after old new status → PortsShow before after status → SaveMainCompletes d p before after old new status
+  stored_completes Save status o ports = save_completes status o.shows
+  stored_completes Restore status o ports = restore_completes status o.shows ports
+  stored_completes _ status o ports = tt
 
   pub any_completes : (p : Plan) (status : Status) → StoreMainShows d p before after old new status → PortsShow before after status → StoreMainCompletes d p before after old new status
   any_completes Save status o ports = save_completes status o.shows

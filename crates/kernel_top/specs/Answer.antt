@@ -18,18 +18,19 @@ use Rattle.kernel_top.specs.Store.{SaveAnswers, RestoreAnswers}
 
 -- ---- the words
 
--- it needs threads
-abbrev pub NeedsThreads : Plan → Type 0
-NeedsThreads Run = Unit {0}
-NeedsThreads _ = ⊥
-
 -- it needs a disk
 abbrev pub NeedsDisk : Plan → Type 0
 NeedsDisk Save = Unit {0}
 NeedsDisk Restore = Unit {0}
 NeedsDisk _ = ⊥
 
--- it needs either
+-- it needs no disk
+abbrev pub NeedsNoDisk : Plan → Type 0
+NeedsNoDisk Save = ⊥
+NeedsNoDisk Restore = ⊥
+NeedsNoDisk _ = Unit {0}
+
+-- it needs threads or a disk
 abbrev pub NeedsEither : Plan → Type 0
 NeedsEither Run = Unit {0}
 NeedsEither Save = Unit {0}
@@ -62,6 +63,11 @@ abbrev pub UsageShows : (Plan → Type 0) → List (List ℕ) → Ports → Port
 UsageShows IsOther words before after (Usage kind) = IsUsageKind IsOther words kind × ¬ AskForOwn IsOther words × Untouched before after
 UsageShows IsOther words before after _ = AskForOwn IsOther words
 
+-- likewise of a call with a disk: at Usage the disk too is as it was
+abbrev pub StoreUsageShows : {D : Type 0} → (Plan → Type 0) → List (List ℕ) → Ports → Ports → D → D → Status → Type 0
+StoreUsageShows IsOther words before after old new (Usage kind) = UsageShows IsOther words before after (Usage kind) × (new ≡ old)
+StoreUsageShows IsOther words before after old new status = UsageShows IsOther words before after status
+
 -- ---- the commands
 
 -- what a call shows that doesn't carry a plan out
@@ -82,6 +88,12 @@ SimMainShows _ before after status = NotCarriedOut before after status
 abbrev pub KernelMainShows : Plan → Ports → Ports → Status → Type 0
 KernelMainShows Run before after status = RunShows IsRoundOrder before after status
 KernelMainShows other before after status = SimMainShows other before after status
+
+-- likewise of the call with a disk alone
+abbrev pub SaveMainShows : {D : Type 0} → Sight D → Plan → Ports → Ports → D → D → Status → Type 0
+SaveMainShows d Save before after old new status = SaveAnswers d before after old new status
+SaveMainShows d Restore before after old new status = RestoreAnswers d before after old new status
+SaveMainShows d _ before after old new status = NotCarriedOut before after status × (new ≡ old)
 
 -- likewise of the call with threads and a disk: the disk stays as it was but by `save` and `restore`
 abbrev pub StoreMainShows : {D : Type 0} → Sight D → Plan → Ports → Ports → D → D → Status → Type 0

@@ -25,8 +25,6 @@ use Rattle.safe_save.specs.Kept.{Image, kept}
 use Rattle.volume_image.specs.Volumes.{Spells as SpellsVolume}
 use Rattle.volume_image.specs.Written.{written}
 use Rattle.words_layout.specs.declared.op.Event.{Event}
-use Rattle.kernel_top.specs.declared.store.StoreCommand.{StoreCommand}
-use Rattle.kernel_top.specs.declared.store.StoreCommand.TheVariants.{Save, Restore}
 
 -- Done or Unfinished, with all that holds where no process is live and where one is, or NoMemory.
 abbrev pub IsComplete : (Bool → Type 0) → Status → Type 0
@@ -143,10 +141,11 @@ abbrev pub KernelMainCompletes : Plan → Ports → Ports → Status → Type 0
 KernelMainCompletes plan.Run before after status = RunCompletes IsRoundOrder before after status
 KernelMainCompletes other before after status = SimMainCompletes other before after status
 
--- of each command with a disk
-abbrev pub StoreCompletes : {D : Type 0} → Sight D → StoreCommand → Ports → Ports → D → D → Status → Type 0
-StoreCompletes d Save before after old new status = SaveCompletes d before after old new status
-StoreCompletes d Restore before after old new status = RestoreCompletes d before after old new status
+-- of each command of the call with a disk alone
+abbrev pub SaveMainCompletes : {D : Type 0} → Sight D → Plan → Ports → Ports → D → D → Status → Type 0
+SaveMainCompletes d plan.Save before after old new status = SaveCompletes d before after old new status
+SaveMainCompletes d plan.Restore before after old new status = RestoreCompletes d before after old new status
+SaveMainCompletes d _ before after old new status = Unit {0}
 
 -- of all commands
 abbrev pub StoreMainCompletes : {D : Type 0} → Sight D → Plan → Ports → Ports → D → D → Status → Type 0

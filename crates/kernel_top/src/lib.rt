@@ -6,6 +6,6 @@ mod store;
 mod threads;
 mod top;
 
-pub use store::{StoreCommand, save_main, store_main};
+pub use store::{save_main, store_main};
 pub use threads::kernel_main;
 pub use top::sim_main;

@@ -15,7 +15,7 @@ use host_ports::Host;
 use std::alloc::Global;
 
 /// The kind of usage where the words are accepted, and what they ask for is another call's.
-const FOR_ANOTHER_CALL: u8 = 3;
+pub const FOR_ANOTHER_CALL: u8 = 3;
 
 /// The kind of a fault of the words.
 pub fn fault_kind(fault: PlanError) -> u8
