@@ -13,9 +13,10 @@ use Rattle.command_input.specs.declared.status.PortFault.TheVariants.{Read, Writ
 use Rattle.command_input.specs.Answer.{PortsShow}
 use Rattle.command_input.specs.Input.{Ports, IfTold, IsTooLong}
 use Rattle.command_run.specs.Shows.{RunShows, ShowShows, IsSchedule}
-use Rattle.command_view.specs.Viewed.{ViewShows}
+use Rattle.command_view.specs.Viewed.{section_due, IsMachineSection}
 use Rattle.command_large.specs.Summed.{LargeShows}
-use Rattle.command_audit.specs.Audited.{AuditShows}
+use Rattle.command_audit.specs.Audited.{trail_due, IsAllowed}
+use Rattle.low_answer.specs.LowShows.{LowShows}
 use Rattle.command_guard.specs.Shown.{InputRead as GuardRead, IsTurn, GuardCause, GuardShows}
 use Rattle.command_save.specs.Disks.{Sight, KeepsNew, length_in_use}
 use Rattle.command_threads.specs.Orders.{IsRoundOrder}
@@ -38,7 +39,7 @@ use Rattle.volume_image.specs.Written.{written}
 use Rattle.volume_image.proofs.VolumeLaws.{one_volume, never_both as never_both_of_volume}
 use Rattle.words_layout.specs.declared.op.Event.{Event}
 use Rattle.kernel_top.specs.Answer.{SimMainShows, KernelMainShows, SaveMainShows, StoreMainShows}
-use Rattle.kernel_top.specs.Complete.{IsComplete, IsDone, RanOn, ViewedOn, AuditedOn, ShownOn, RunCompletes, ViewCompletes, AuditCompletes, ShowCompletes, LargeCompletes, IsGuardInput, GuardCompletes, SaveCompletes, KeepsVolume, RestoreCompletes, SimMainCompletes, KernelMainCompletes, SaveMainCompletes, StoreMainCompletes}
+use Rattle.kernel_top.specs.Complete.{IsComplete, IsDone, RanOn, LowShownOn, ShownOn, RunCompletes, LowCompletes, ShowCompletes, LargeCompletes, IsGuardInput, GuardCompletes, SaveCompletes, KeepsVolume, RestoreCompletes, SimMainCompletes, KernelMainCompletes, SaveMainCompletes, StoreMainCompletes}
 
 -- ---- want of memory is complete
 
@@ -63,25 +64,15 @@ module _ (before after : Ports) where
 
   -- ---- `view` and `audit`
 
-  view_completes : (class : ℕ) (status : Status) → ViewShows class before after status → ViewCompletes class before after status
-  view_completes class Done o k vs valid none =
+  low_completes : (due : ℕ → ConfigText → Volumes → List ℕ) (Holds : ℕ → ConfigText → Volumes → Type 0) (class : ℕ) (status : Status) → LowShows due Holds class before after status → LowCompletes due Holds class before after status
+  low_completes due Holds class Done o k vs valid none =
       let same = reads_the_input (Some class) before after k o.of.config vs o.of.volumes valid o.of.input.reads in
-      record { viewed = o; config = same.0; volumes = same.1 }
-  view_completes class Unfinished o k vs valid none =
+      record { shown = o; config = same.0; volumes = same.1 }
+  low_completes due Holds class Unfinished o k vs valid none =
       let same = reads_the_input (Some class) before after k o.of.config vs o.of.volumes valid o.of.input.reads in
-      record { viewed = o; config = same.0; volumes = same.1 }
-  view_completes class (HostFault (Write port)) o k vs valid none = absurd (none.pushes 0 o.one.rose)
-  view_completes class other o k vs valid none = memory_completes (ViewedOn class k vs before after) other (valid_input_is_read (Some class) before after k vs other valid none o)
-
-  audit_completes : (class : ℕ) (status : Status) → AuditShows class before after status → AuditCompletes class before after status
-  audit_completes class Done o k vs valid none =
-      let same = reads_the_input (Some class) before after k o.of.config vs o.of.volumes valid o.of.input.reads in
-      record { audited = o; config = same.0; volumes = same.1 }
-  audit_completes class Unfinished o k vs valid none =
-      let same = reads_the_input (Some class) before after k o.of.config vs o.of.volumes valid o.of.input.reads in
-      record { audited = o; config = same.0; volumes = same.1 }
-  audit_completes class (HostFault (Write port)) o k vs valid none = absurd (none.pushes 0 o.one.rose)
-  audit_completes class other o k vs valid none = memory_completes (AuditedOn class k vs before after) other (valid_input_is_read (Some class) before after k vs other valid none o)
+      record { shown = o; config = same.0; volumes = same.1 }
+  low_completes due Holds class (HostFault (Write port)) o k vs valid none = absurd (none.pushes 0 o.one.rose)
+  low_completes due Holds class other o k vs valid none = memory_completes (LowShownOn due Holds class k vs before after) other (valid_input_is_read (Some class) before after k vs other valid none o)
 
   -- ---- `show` and `large`
 
@@ -162,9 +153,9 @@ module _ (before after : Ports) where
   pub sim_completes : (p : Plan) (status : Status) → SimMainShows p before after status → SimMainCompletes p before after status
   sim_completes Sim status o = run_completes IsSchedule status o
   sim_completes Show status o = show_completes status o
-  sim_completes (View class) status o = view_completes class status o
+  sim_completes (View class) status o = low_completes section_due IsMachineSection class status o
   sim_completes (Large number) status o = large_completes number status o
-  sim_completes (Audit class) status o = audit_completes class status o
+  sim_completes (Audit class) status o = low_completes trail_due IsAllowed class status o
   sim_completes Guard status o = guard_completes status o
   sim_completes _ status o = tt
 

@@ -9,9 +9,10 @@ use Rattle.command_input.specs.declared.status.Status.TheVariants.{Done, Refused
 use Rattle.command_input.specs.declared.status.Refusal.TheVariants.{Store}
 use Rattle.command_input.specs.Input.{Ports}
 use Rattle.command_run.specs.Shows.{Ran, Shown, IsSchedule}
-use Rattle.command_view.specs.Viewed.{Viewed}
+use Rattle.command_view.specs.Viewed.{section_due, IsMachineSection}
 use Rattle.command_large.specs.Summed.{Summed}
-use Rattle.command_audit.specs.Audited.{Audited}
+use Rattle.command_audit.specs.Audited.{trail_due, IsAllowed}
+use Rattle.low_answer.specs.LowShows.{LowShown}
 use Rattle.command_threads.specs.Orders.{IsRoundOrder}
 use Rattle.command_save.specs.Disks.{Sight, HasRisen, KeepsNew}
 use Rattle.config_text.specs.declared.config.Config.{Config as ConfigText}
@@ -52,24 +53,15 @@ RunCompletes IsOrder before after status = (k : ConfigText) (vs : Volumes) → I
 
 -- ---- `view` and `audit`
 
--- The section of the class in this input was printed whole.
-pub record ViewedOn (class : ℕ) (k : ConfigText) (vs : Volumes) (before after : Ports) (live : Bool) : Type 0 where
-  pub viewed : Viewed class live before after
-  pub config : viewed.of.config ≡ k
-  pub volumes : viewed.of.volumes ≡ vs
+-- The text of the class in this input was printed whole.
+pub record LowShownOn (due : ℕ → ConfigText → Volumes → List ℕ) (Holds : ℕ → ConfigText → Volumes → Type 0) (class : ℕ) (k : ConfigText) (vs : Volumes) (before after : Ports) (live : Bool) : Type 0 where
+  pub shown : LowShown due Holds class live before after
+  pub config : shown.of.config ≡ k
+  pub volumes : shown.of.volumes ≡ vs
 
 -- The class is one of the input's classes.
-abbrev pub ViewCompletes : ℕ → Ports → Ports → Status → Type 0
-ViewCompletes class before after status = (k : ConfigText) (vs : Volumes) → IsValidInput (Some class) before k vs → NoneRose before after → IsComplete (ViewedOn class k vs before after) status
-
--- The trail of the class in this input was printed whole.
-pub record AuditedOn (class : ℕ) (k : ConfigText) (vs : Volumes) (before after : Ports) (live : Bool) : Type 0 where
-  pub audited : Audited class live before after
-  pub config : audited.of.config ≡ k
-  pub volumes : audited.of.volumes ≡ vs
-
-abbrev pub AuditCompletes : ℕ → Ports → Ports → Status → Type 0
-AuditCompletes class before after status = (k : ConfigText) (vs : Volumes) → IsValidInput (Some class) before k vs → NoneRose before after → IsComplete (AuditedOn class k vs before after) status
+abbrev pub LowCompletes : (ℕ → ConfigText → Volumes → List ℕ) → (ℕ → ConfigText → Volumes → Type 0) → ℕ → Ports → Ports → Status → Type 0
+LowCompletes due Holds class before after status = (k : ConfigText) (vs : Volumes) → IsValidInput (Some class) before k vs → NoneRose before after → IsComplete (LowShownOn due Holds class k vs before after) status
 
 -- ---- `show` and `large`
 
@@ -130,9 +122,9 @@ RestoreCompletes d before after old new status = (k : ConfigText) (v : List SegR
 abbrev pub SimMainCompletes : Plan → Ports → Ports → Status → Type 0
 SimMainCompletes plan.Sim before after status = RunCompletes IsSchedule before after status
 SimMainCompletes plan.Show before after status = ShowCompletes before after status
-SimMainCompletes (plan.View class) before after status = ViewCompletes class before after status
+SimMainCompletes (plan.View class) before after status = LowCompletes section_due IsMachineSection class before after status
 SimMainCompletes (plan.Large number) before after status = LargeCompletes number before after status
-SimMainCompletes (plan.Audit class) before after status = AuditCompletes class before after status
+SimMainCompletes (plan.Audit class) before after status = LowCompletes trail_due IsAllowed class before after status
 SimMainCompletes plan.Guard before after status = GuardCompletes before after status
 SimMainCompletes _ before after status = Unit {0}
 
