@@ -1,6 +1,6 @@
 -- Along a run each effect is granted exactly where its condition holds.
 use Rattle.std.proofs.Common.{ℕ, zero, suc, ◌+◌, ◌<◌, Bool, true, false, List, [], ◌∷◌, ◌++◌, ◌≡◌, refl, sym, ap, subst, ◌∙◌, Option, Some, None, arith, append_assoc}
-use Rattle.std.specs.Prelude.{◌==◌, ◌&&◌, if◌then◌else◌, nat_lt, is_none, reverse, slice_get, take}
+use Rattle.std.specs.Prelude.{◌==◌, ◌||◌, not, if◌then◌else◌, nat_lt, is_none, reverse, slice_get, take}
 use Rattle.std.specs.List.{position}
 use Rattle.std.specs.Option.{option_map_or}
 use Rattle.std.proofs.lemmas.Bool.{ltb-false}
@@ -32,7 +32,7 @@ below_eight e h = let f = ltb-false 7 e h in omega (arith, f)
 
 small_of : (a : State) (p : Process) (q : Request) → Planned a.shared p q → Small q
 small_of a p (MakeKnown x e mode) pl =
-    let more : List (Bool × Rule) = (Rattle.std.specs.Prelude.not (mode == 1 Rattle.std.specs.Prelude.|| mode == 2 Rattle.std.specs.Prelude.|| mode == 3) ⇒ BadMode) ∷ (is_none (free_known p) ⇒ KstFull) ∷ [] in
+    let more : List (Bool × Rule) = (not (mode == 1 || mode == 2 || mode == 3) ⇒ BadMode) ∷ (is_none (free_known p) ⇒ KstFull) ∷ [] in
     below_eight e (passed_head (entry_test e) more (passed_head (ring_read_test p.ring x) (entry_test e ∷ more) pl.2).1).0
 small_of a p (Create x e class b size) pl = entry_small a.shared.table p.ring e class size pl.1 x pl.4
 small_of a p (Delete x e) pl = below_eight e (passed_head (entry_test e) [] (changes p.ring x (entry_test e ∷ []) pl.2).1).0

@@ -1,4 +1,5 @@
-use Rattle.std.specs.Prelude.{◌&&◌, ◌==◌, ◌+◌, nat_lt, ◌≡◌, sym, ap, ◌∙◌, not, is_none, take, reverse}
+use Rattle.std.proofs.Common.{ap, ◌∙◌}
+use Rattle.std.specs.Prelude.{◌&&◌, ◌==◌, ◌+◌, nat_lt, not, is_none, take, reverse}
 use Rattle.class_model.specs.Run.{Happened, history, opening, opening_serial}
 use Rattle.class_model.specs.Content.{prints}
 use Rattle.class_model.specs.Plan.{MakeKnown, Create, Delete, SwapIn, SwapOut, Fetch, Update, Advance, Ticket, Out}
