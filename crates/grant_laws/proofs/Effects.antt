@@ -1,6 +1,6 @@
 -- The effect of each request leaves in its part what the effects so far and it come to.
-use Rattle.std.proofs.Common.{ℕ, zero, suc, ◌+◌, ◌<◌, Bool, true, false, not, ◌&&◌, List, [], ◌∷◌, ◌++◌, ◌≡◌, refl, sym, ap, subst, ◌∙◌, Option, Some, None, map, arith, length}
-use Rattle.std.specs.Prelude.{◌==◌, if◌then◌else◌, is_some, is_none, nat_lt, nat_le, replicate, unwrap_or, slice_index_or, slice_set}
+use Rattle.std.proofs.Common.{ℕ, zero, suc, ◌+◌, ◌<◌, Bool, true, false, not, ◌&&◌, List, [], ◌∷◌, ◌++◌, ◌≡◌, refl, sym, ap, subst, ◌∙◌, Option, Some, None, map, arith}
+use Rattle.std.specs.Prelude.{◌==◌, if◌then◌else◌, is_some, nat_lt, nat_le, replicate, unwrap_or, slice_index_or, slice_set}
 use Rattle.lists.specs.Lists.{overwrite, part_of, below}
 use Rattle.rings.specs.Brackets.{Brackets}
 use Rattle.words_layout.specs.Segments.{seg, same_seg, put_seg}
@@ -11,18 +11,18 @@ use Rattle.policy.specs.Known.{Known, new_alias}
 use Rattle.policy.specs.Outcome.{Outcome, Refused, Value, Words, Printed, Tally}
 use Rattle.policy.specs.Verdict.{first_broken, ◌⇒◌}
 use Rattle.policy.specs.declared.rule.Rule.{Rule}
-use Rattle.policy.specs.declared.rule.Rule.TheVariants.{NoEntry, Gone, EntryTaken, SerialsUsed, NotIn, AlreadyIn, NoFrame, NoPage, ConsoleFull}
-use Rattle.class_model.specs.Config.{Config, pool_of}
+use Rattle.policy.specs.declared.rule.Rule.TheVariants.{NoEntry, Gone, EntryTaken, SerialsUsed, NotIn, ConsoleFull}
+use Rattle.class_model.specs.Config.{Config}
 use Rattle.class_model.specs.Plan.{Request, MakeKnown, Create, Delete, SwapIn, SwapOut, Fetch, Update, Read, Advance, Ticket, Out}
 use Rattle.class_model.specs.Process.{Process}
-use Rattle.class_model.specs.State.{State, Part, Cell, CellHome, Never, In, Stored, Deleted, with_cell, cell_of, entry_at, live_words, is_deleted, is_in, is_in_home, frames_in_use, pages_in_use}
+use Rattle.class_model.specs.State.{State, Part, Cell, CellHome, Never, In, Stored, Deleted, with_cell, cell_of, entry_at, live_words, is_deleted, is_in, is_in_home}
 use Rattle.class_model.specs.Step.{Effect, chosen, effect, delete_effect, deleted, emptied, with_entry}
 use Rattle.class_model.specs.Run.{Happened}
 use Rattle.class_model.specs.Content.{prints}
 use Rattle.effect_laws.proofs.Counting.{one_if}
 use Rattle.effect_laws.proofs.CreateTests.{passed_head, not_false}
 use Rattle.effect_laws.proofs.GateData.{put-seg-both}
-use Rattle.grant_laws.specs.Grants.{Place, Outside, Inside, Lost, takes, entry_asked, stands_in, place_asked, place_after, page_asked, has_page_after, creates}
+use Rattle.grant_laws.specs.Grants.{Outside, Inside, Lost, takes, entry_asked, stands_in, place_asked, place_after, page_asked, has_page_after, creates}
 use Rattle.grant_laws.proofs.Kept.{place_of, standing, Kept, PartKept}
 
 -- one of eight entries is set

@@ -1,26 +1,25 @@
 -- A request is granted exactly where a condition on the effects before it holds.
-use Rattle.std.proofs.Common.{ℕ, zero, suc, ◌+◌, ◌<◌, ◌≤◌, ◌%◌, ◌^◌, Bool, true, false, not, ◌&&◌, ◌||◌, List, [], ◌∷◌, ◌++◌, ◌≡◌, refl, sym, ap, subst, ◌∙◌, Option, Some, None, map, arith, length}
-use Rattle.std.specs.Prelude.{◌==◌, if◌then◌else◌, is_some, is_none, nat_lt, nat_le, count_by, reverse, slice_index}
+use Rattle.std.proofs.Common.{ℕ, ◌+◌, ◌<◌, ◌%◌, ◌^◌, Bool, true, false, not, ◌&&◌, ◌||◌, List, [], ◌∷◌, ◌++◌, ◌≡◌, refl, sym, ap, ◌∙◌, Option, Some, None, arith, length}
+use Rattle.std.specs.Prelude.{◌==◌, if◌then◌else◌, is_some, is_none, nat_lt, nat_le, count_by, slice_index}
 use Rattle.std.specs.List.{list_any}
 use Rattle.std.proofs.lemmas.Bool.{ltb-false, leb-false, cases_eq}
-use Rattle.lists.specs.Lists.{below, part_of}
 use Rattle.labels.specs.Label.{label_of}
 use Rattle.words_layout.specs.Segments.{seg}
 use Rattle.words_layout.specs.declared.segment.SegId.{SegId}
 use Rattle.words_layout.specs.declared.coding.Alias.{Alias}
 use Rattle.policy.specs.Known.{Known, alias_brackets}
-use Rattle.policy.specs.Outcome.{Outcome, Refused, Value, Words, Printed, Looked, Counted, Tally, components, shown, judged, tallied}
+use Rattle.policy.specs.Outcome.{Refused, Printed, Looked, Counted, Tally, components, shown, judged}
 use Rattle.policy.specs.Verdict.{verdict, first_broken, ◌⇒◌}
 use Rattle.policy.specs.declared.rule.Rule.{Rule}
-use Rattle.policy.specs.declared.rule.Rule.TheVariants.{NoEntry, Gone, EntryTaken, SerialsUsed, NotEmpty, NotIn, AlreadyIn, NoFrame, NoPage, ConsoleFull}
+use Rattle.policy.specs.declared.rule.Rule.TheVariants.{Gone, EntryTaken, SerialsUsed, NotEmpty, NotIn, AlreadyIn, NoFrame, NoPage, ConsoleFull}
 use Rattle.class_model.specs.Config.{Config, Shared, shared_of, pool_of, classes}
 use Rattle.class_model.specs.Plan.{Request, MakeKnown, Create, Delete, SwapIn, SwapOut, Fetch, Update, Read, Advance, Ticket, Out}
 use Rattle.class_model.specs.State.{State, Part, Cell, CellHome, Never, In, Stored, Deleted, cell_of, entry_at, has_entry, is_deleted, is_deleted_home, is_in, is_in_home, frames_in_use, pages_in_use, identities}
-use Rattle.class_model.specs.Step.{Effect, chosen, effect, delete_effect, unless}
+use Rattle.class_model.specs.Step.{Effect, chosen, effect, delete_effect}
 use Rattle.class_model.specs.Run.{Happened, opening_serial}
 use Rattle.class_model.specs.Content.{outs_in}
-use Rattle.effect_laws.proofs.Counting.{one_if, total, count-total, total-same}
-use Rattle.grant_laws.specs.Grants.{granted, Place, inside, lost, stands_in, is_in_after, is_deleted_after, has_page_after, ins_after, pages_after, creates_in, has_child_after, may_delete, may_learn}
+use Rattle.effect_laws.proofs.Counting.{one_if, count-total, total-same}
+use Rattle.grant_laws.specs.Grants.{granted, inside, lost, stands_in, is_in_after, is_deleted_after, has_page_after, ins_after, pages_after, creates_in, has_child_after, may_delete, may_learn}
 use Rattle.grant_laws.proofs.Kept.{place_of, Kept}
 use Rattle.grant_laws.proofs.Effects.{Small, entry_is}
 

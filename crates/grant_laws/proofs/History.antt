@@ -1,20 +1,19 @@
 -- Along a run each effect is granted exactly where its condition holds.
-use Rattle.std.proofs.Common.{ℕ, zero, suc, ◌+◌, ◌<◌, Bool, true, false, List, [], ◌∷◌, ◌++◌, ◌≡◌, refl, sym, ap, subst, ◌∙◌, Option, Some, None, arith, append_assoc}
+use Rattle.std.proofs.Common.{ℕ, zero, suc, ◌<◌, Bool, true, false, List, [], ◌∷◌, ◌++◌, ◌≡◌, refl, sym, subst, Option, Some, None, arith, append_assoc}
 use Rattle.std.specs.Prelude.{◌==◌, ◌||◌, not, if◌then◌else◌, nat_lt, is_none, reverse, slice_get, take}
 use Rattle.std.specs.List.{position}
 use Rattle.std.specs.Option.{option_map_or}
 use Rattle.std.proofs.lemmas.Bool.{ltb-false}
 use Rattle.std.proofs.lemmas.List.{append-nil}
-use Rattle.policy.specs.Known.{Known}
 use Rattle.policy.specs.Outcome.{Outcome}
 use Rattle.policy.specs.Verdict.{◌⇒◌}
 use Rattle.policy.specs.declared.rule.Rule.{Rule}
-use Rattle.policy.specs.declared.rule.Rule.TheVariants.{BadMode, KstFull, BadEntry}
+use Rattle.policy.specs.declared.rule.Rule.TheVariants.{BadMode, KstFull}
 use Rattle.policy.specs.Private.{ring_read_test, entry_test}
 use Rattle.class_model.specs.Config.{Config}
 use Rattle.class_model.specs.Process.{Process, ProcName, settled, free_known}
 use Rattle.class_model.specs.Plan.{Plan, Own, Begin, Ask, Request, MakeKnown, Create, Delete, SwapIn, SwapOut, Fetch, Update, Read, Advance, Ticket, Out, plan}
-use Rattle.class_model.specs.State.{State, Part, process_at, with_part, with_process}
+use Rattle.class_model.specs.State.{State, process_at, with_part, with_process}
 use Rattle.class_model.specs.Step.{Deed, Effect, deed, deed_of, deed_by, done, effect, begun}
 use Rattle.class_model.specs.Run.{Happened, happened, history, opening}
 use Rattle.class_model.specs.Access.{ring_of}

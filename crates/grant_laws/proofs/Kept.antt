@@ -1,12 +1,12 @@
 -- What a state holds is what the effects so far come to.
-use Rattle.std.proofs.Common.{ℕ, zero, suc, ◌+◌, ◌<◌, Bool, true, false, not, ◌&&◌, List, [], ◌∷◌, ◌++◌, ◌≡◌, refl, sym, ap, subst, ◌∙◌, Option, Some, None, map, arith, length}
-use Rattle.std.specs.Prelude.{◌==◌, if◌then◌else◌, is_some, count_by, slice_index_or, slice_set}
+use Rattle.std.proofs.Common.{ℕ, ◌+◌, Bool, true, false, ◌&&◌, List, [], ◌∷◌, ◌≡◌, refl, sym, ap, ◌∙◌, Option, Some, None, map, arith}
+use Rattle.std.specs.Prelude.{◌==◌, is_some, count_by}
 use Rattle.std.proofs.lemmas.Bool.{eq-eqb}
 use Rattle.lists.specs.Lists.{below}
 use Rattle.words_layout.specs.declared.segment.SegId.{SegId}
 use Rattle.words_layout.specs.declared.coding.Alias.{Alias}
 use Rattle.policy.specs.Outcome.{Outcome}
-use Rattle.class_model.specs.Config.{Config, Shared, shared_of}
+use Rattle.class_model.specs.Config.{Config, shared_of}
 use Rattle.class_model.specs.Plan.{Request}
 use Rattle.class_model.specs.State.{State, Part, CellHome, Never, Stored, In, Deleted, cell_at, with_part}
 use Rattle.class_model.specs.Run.{Happened, opening, kept_of, opening_home, opening_serial}

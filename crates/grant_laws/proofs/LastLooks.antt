@@ -1,6 +1,6 @@
 -- The last look of a read counts exactly where what its looks saw is at least what is wanted.
-use Rattle.std.proofs.Common.{ℕ, ◌+◌, ◌%◌, ◌^◌, ◌<◌, ◌≤◌, Bool, true, false, List, ◌≡◌, refl, sym, ap, subst, ◌∙◌, Option, Some, None, arith, length}
-use Rattle.std.specs.Prelude.{if◌then◌else◌, nat_lt, reverse, take, slice_get, slice_index}
+use Rattle.std.proofs.Common.{ℕ, ◌+◌, ◌%◌, ◌^◌, ◌<◌, ◌≤◌, Bool, true, false, List, ◌≡◌, refl, ap, subst, ◌∙◌, Option, Some, None, arith, length}
+use Rattle.std.specs.Prelude.{if◌then◌else◌, nat_lt, reverse, take, slice_index}
 use Rattle.std.proofs.lemmas.Bool.{ltb-false, ltb-true}
 use Rattle.std.proofs.lemmas.List.{take_all, length-take}
 use Rattle.std.proofs.Math.Nat.{mod-eq_of_lt}
@@ -11,7 +11,7 @@ use Rattle.class_model.specs.Config.{Config}
 use Rattle.class_model.specs.Process.{Process, ProcName, known_at}
 use Rattle.class_model.specs.Plan.{Plan, Own, Begin, Ask, Request, MakeKnown, Create, Delete, SwapIn, SwapOut, Fetch, Update, Read, Advance, Ticket, Out, plan}
 use Rattle.class_model.specs.State.{State, process_at, component_at}
-use Rattle.class_model.specs.Step.{Deed, deed, deed_of, deed_by, effect}
+use Rattle.class_model.specs.Step.{Deed, deed_of, deed_by, effect}
 use Rattle.class_model.specs.Run.{Happened, history, opening}
 use Rattle.class_model.specs.Access.{all_given}
 use Rattle.class_model.specs.Content.{advances_in, looked_at}

@@ -1,7 +1,6 @@
 -- When each gate is granted, by what was given and done before.
 use Rattle.std.specs.Prelude.{ℕ, ◌+◌, ◌^◌, ◌≤◌, ◌<◌, ◌≡◌, Bool, true, false, not, ◌&&◌, ◌||◌, List, [], ◌∷◌, ◌==◌, if◌then◌else◌, nat_lt, length, count_by, reverse, take, Option, Some, None, is_none, is_some, slice_get}
 use Rattle.std.specs.List.{list_any}
-use Rattle.std.specs.Option.{option_map_or}
 use Rattle.lists.specs.Lists.{below}
 use Rattle.labels.specs.Label.{label_of}
 use Rattle.rings.specs.Brackets.{Brackets}
