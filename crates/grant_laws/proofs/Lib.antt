@@ -1,0 +1,5 @@
+pub mod Kept
+pub mod Effects
+pub mod Grants
+pub mod History
+pub mod LastLooks
