@@ -3,4 +3,5 @@
 #![tactic(auto)]
 
 pub mod cases;
+pub mod granting;
 pub mod looks;
