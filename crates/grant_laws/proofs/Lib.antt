@@ -3,3 +3,4 @@ pub mod Effects
 pub mod Grants
 pub mod History
 pub mod LastLooks
+pub mod Owners

@@ -180,3 +180,17 @@ IsCounted k past n _ = Unit {0}
 abbrev pub ReadsAreCounted : Type 0
 ReadsAreCounted = (k : Config) (names : List ProcName) → IsConfig k → length names ≤ 2 ^ 64 → let run = history (opening k) names in
     (i : ℕ) (h : Happened) → slice_get run i ≡ Some h → IsCounted k (take i run) h.who h.deed.asked
+
+-- What changes a segment or the entries of a mentor is asked by a process of its class.
+abbrev pub IsOwn : ℕ → Option (Request × Outcome) → Type 0
+IsOwn d (Some (Create x e class b size, o)) = x.class ≡ d
+IsOwn d (Some (Delete x e, o)) = x.class ≡ d
+IsOwn d (Some (SwapIn x, o)) = x.class ≡ d
+IsOwn d (Some (SwapOut x, o)) = x.class ≡ d
+IsOwn d (Some (Update x offset words, o)) = x.class ≡ d
+IsOwn d _ = Unit {0}
+
+-- so does each effect of a run
+abbrev pub ChangesAreOwn : Type 0
+ChangesAreOwn = (k : Config) (names : List ProcName) → IsConfig k → let run = history (opening k) names in
+    (i : ℕ) (h : Happened) → slice_get run i ≡ Some h → IsOwn h.who.class h.deed.asked

@@ -7,6 +7,7 @@ use Rattle.content_laws.proofs.Tallies.{count_reverse}
 use Rattle.grant_laws.specs.Grants.{creates, is_deleted_after, stands_in}
 use Rattle.grant_laws.proofs.History.{granted_where}
 use Rattle.grant_laws.proofs.LastLooks.{reads_are_counted}
+use Rattle.grant_laws.proofs.Owners.{changes_are_own}
 use Rattle.grant_laws.proofs.grant_laws.Goals as goal
 
 pub returns : goal.returns
@@ -25,4 +26,5 @@ returns c = record {
   deletes = λ x n k names i h o e f. granted_where k names i h (Delete x n) o e f;
   makes_known = λ x n mode k names i h o e f. granted_where k names i h (MakeKnown x n mode) o e f;
   reads = reads_are_counted;
+  own = changes_are_own;
 }
