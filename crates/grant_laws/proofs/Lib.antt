@@ -4,3 +4,4 @@ pub mod Grants
 pub mod History
 pub mod LastLooks
 pub mod Owners
+pub mod Scripts

@@ -11,11 +11,11 @@ use Rattle.policy.specs.Known.{Known, new_alias, alias_brackets}
 use Rattle.policy.specs.Outcome.{Outcome, Refused, Value, Looked, Counted, Tally, components}
 use Rattle.policy.specs.Verdict.{verdict}
 use Rattle.class_model.specs.Config.{Config, shared_of, pool_of}
-use Rattle.class_model.specs.Process.{ProcName}
+use Rattle.class_model.specs.Process.{Process, ProcName}
 use Rattle.class_model.specs.Plan.{Request, MakeKnown, Create, Delete, SwapIn, SwapOut, Fetch, Update, Read, Advance, Ticket, Out}
-use Rattle.class_model.specs.State.{identities}
-use Rattle.class_model.specs.Run.{Happened, history, opening, kept_of, opening_entry, opening_serial}
-use Rattle.class_model.specs.Valid.{IsConfig}
+use Rattle.class_model.specs.State.{identities, process_at}
+use Rattle.class_model.specs.Run.{Happened, history, opening, run, kept_of, opening_entry, opening_serial}
+use Rattle.class_model.specs.Valid.{IsConfig, uses_script}
 use Rattle.class_model.specs.Access.{ring_of}
 use Rattle.class_model.specs.Content.{looked_at, outs_in}
 
@@ -194,3 +194,9 @@ IsOwn d _ = Unit {0}
 abbrev pub ChangesAreOwn : Type 0
 ChangesAreOwn = (k : Config) (names : List ProcName) → IsConfig k → let run = history (opening k) names in
     (i : ℕ) (h : Happened) → slice_get run i ≡ Some h → IsOwn h.who.class h.deed.asked
+
+-- ---- Which script a process runs.
+
+-- In each state that a run reaches, the script of every process is there, and its class is at or below the process's own.
+abbrev pub ScriptsAreLow : Type 0
+ScriptsAreLow = (k : Config) (names : List ProcName) (n : ProcName) (p : Process) → IsConfig k → process_at (run k names) n ≡ Some p → uses_script k n.class p.script ≡ true

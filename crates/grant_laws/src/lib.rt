@@ -1,7 +1,7 @@
 //! When each gate is granted, by what was given and done before.
 #![tactic(auto)]
 
-ghost use Rattle.grant_laws.specs.Grants.{OutsAreGranted, FetchesAreGranted, UpdatesAreGranted, TicketsAreGranted, AdvancesAreGranted, SwapsInAreGranted, SwapsOutAreGranted, CreatesAreGranted, DeletesAreGranted, MakeKnownsAreGranted, ReadsAreCounted, ChangesAreOwn};
+ghost use Rattle.grant_laws.specs.Grants.{OutsAreGranted, FetchesAreGranted, UpdatesAreGranted, TicketsAreGranted, AdvancesAreGranted, SwapsInAreGranted, SwapsOutAreGranted, CreatesAreGranted, DeletesAreGranted, MakeKnownsAreGranted, ReadsAreCounted, ChangesAreOwn, ScriptsAreLow};
 
 /// What passed its private tests is granted exactly where a condition on the effects before it holds.
 pub fn grant_laws()
@@ -17,4 +17,5 @@ pub fn grant_laws()
     ensures makes_known { MakeKnownsAreGranted }
     ensures reads { ReadsAreCounted }
     ensures own { ChangesAreOwn }
+    ensures scripts { ScriptsAreLow }
 {}

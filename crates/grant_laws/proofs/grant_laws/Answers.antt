@@ -8,6 +8,7 @@ use Rattle.grant_laws.specs.Grants.{creates, is_deleted_after, stands_in}
 use Rattle.grant_laws.proofs.History.{granted_where}
 use Rattle.grant_laws.proofs.LastLooks.{reads_are_counted}
 use Rattle.grant_laws.proofs.Owners.{changes_are_own}
+use Rattle.grant_laws.proofs.Scripts.{scripts_are_low}
 use Rattle.grant_laws.proofs.grant_laws.Goals as goal
 
 pub returns : goal.returns
@@ -27,4 +28,5 @@ returns c = record {
   makes_known = λ x n mode k names i h o e f. granted_where k names i h (MakeKnown x n mode) o e f;
   reads = reads_are_counted;
   own = changes_are_own;
+  scripts = scripts_are_low;
 }
