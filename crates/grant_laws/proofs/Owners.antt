@@ -1,17 +1,16 @@
 -- What changes a segment or the entries of a mentor is asked by a process of its class.
-use Rattle.std.proofs.Common.{ℕ, Bool, true, false, List, [], ◌∷◌, ◌≡◌, refl, subst, Option, Some, None}
-use Rattle.std.specs.Prelude.{◌==◌, if◌then◌else◌, slice_get, take}
+use Rattle.std.proofs.Common.{ℕ, Bool, true, false, [], ◌∷◌, ◌≡◌, refl, subst, Option, Some, None}
+use Rattle.std.specs.Prelude.{◌==◌, if◌then◌else◌, take}
 use Rattle.policy.specs.Known.{Known, modifies}
 use Rattle.policy.specs.Outcome.{Outcome}
 use Rattle.policy.specs.Verdict.{◌⇒◌}
 use Rattle.policy.specs.declared.rule.Rule.TheVariants.{BadSize}
 use Rattle.policy.specs.Private.{bounds_test, entry_test}
-use Rattle.class_model.specs.Config.{Config}
 use Rattle.class_model.specs.Process.{Process, ProcName, known_at, usable_at}
 use Rattle.class_model.specs.Plan.{Plan, Own, Begin, Ask, Request, MakeKnown, Create, Delete, SwapIn, SwapOut, Fetch, Update, Read, Advance, Ticket, Out, plan}
 use Rattle.class_model.specs.State.{State, process_at}
 use Rattle.class_model.specs.Step.{Deed, deed_of, deed_by, effect}
-use Rattle.class_model.specs.Run.{Happened, history, opening}
+use Rattle.class_model.specs.Run.{history, opening}
 use Rattle.effect_laws.proofs.CreateTests.{changes, may_create}
 use Rattle.effect_laws.proofs.GateLaws.{usable_known}
 use Rattle.effect_laws.proofs.Good.{Good}
