@@ -41,7 +41,7 @@ use Rattle.words_layout.specs.declared.op.Event.{Event}
 use Rattle.kernel_top.specs.Answer.{SimMainShows, KernelMainShows, SaveMainShows, StoreMainShows}
 use Rattle.kernel_top.specs.Complete.{IsComplete, IsDone, RanOn, LowShownOn, ShownOn, RunCompletes, LowCompletes, ShowCompletes, LargeCompletes, IsGuardInput, GuardCompletes, SaveCompletes, KeepsVolume, RestoreCompletes, SimMainCompletes, KernelMainCompletes, SaveMainCompletes, StoreMainCompletes}
 
--- ---- want of memory is complete
+-- ---- out of memory is complete
 
 memory_completes : (Whole : Bool → Type 0) (status : Status) → status ≡ NoMemory → IsComplete Whole status
 memory_completes Whole status e = subst (IsComplete Whole) (sym e) tt

@@ -55,7 +55,7 @@ module _ (s : Shared) (good : IsSound s) (d : ℕ) where
   pub child_fits : (r : Running) (free : Option ℕ) (answer : ℕ) → Fits s d r → (slot : ℕ) (c : Process) → (absorb s d r free answer).made ≡ Child slot c → Fits s d (fresh c)
   child_fits r free answer f slot c e = subst (MadeFits s d) e (made_fits r free answer f)
 
-  -- a process at the begin of a script that is there and at or below its class fits
+  -- a process at the start of a script that is there and at or below its class fits
   pub opening_fits : (n ring start : ℕ) → d < classes s → UsesScript s d n → Fits s d (fresh (new_process d n ring start))
   opening_fits n ring start below h = new_fits s good d n ring start below h
 

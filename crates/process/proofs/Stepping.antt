@@ -31,7 +31,7 @@ use Rattle.process.specs.declared.doing.Step.{Step}
 
 -- ---- looks
 
--- what a look is told: it goes on; it begins again; or it shows what P says and is over
+-- what a look is told: it goes on; it retries; or it shows what P says and is over
 abbrev pub LookTold : (Outcome → Type 0) → Ending → Option Outcome → Doing Outcome → Type 0
 LookTold P Goes None x = IsLooking P x
 LookTold P Polls None x = x ≡ Fresh

@@ -1,4 +1,4 @@
--- A reader's look that an update crosses begins again, and its next one is accepted.
+-- A reader's look that an update crosses retries, and its next one is accepted.
 use Rattle.std.proofs.Common.{ℕ, ◌+◌, ◌≤◌, length, Bool, true, false, ◌&&◌, List, [], ◌∷◌, ◌++◌, ◌≡◌, refl, Option, Some, None, ap, ◌∙◌, arith}
 use Rattle.std.specs.Prelude.{◌==◌, not}
 use Rattle.std.proofs.lemmas.Bool.{eqb-true, and_parts}
