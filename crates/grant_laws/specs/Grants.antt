@@ -43,7 +43,7 @@ abbrev pub takes : ℕ → SegId → Option Alias → Bool
 takes c u None = false
 takes c u (Some a) = a.class == c && same_seg u (seg c a.serial)
 
--- what the last Ok swapin, swapout or delete of a segment was; Out where there was none
+-- Where a segment is: Inside after a swapin, Outside after a swapout or where there was none, Lost after a delete.
 pub data Place : Type 0 where
   Outside : Place
   Inside : Place
@@ -122,7 +122,7 @@ abbrev pub may_learn : Config → ℕ → ℕ → ℕ → Option Alias → Bool
 may_learn k d ring mode None = false
 may_learn k d ring mode (Some a) = is_none (verdict (label_of k.table d) ring (label_of k.table a.class) (alias_brackets a) mode)
 
--- An effect that asked this is granted exactly where this holds of the effects before it.
+-- An effect that asked this, so its private tests have passed, is granted exactly where this holds of the effects before it.
 abbrev pub IsGrantedWhere : Request → (Config → List Happened → Happened → Bool) → Type 0
 IsGrantedWhere q test = (k : Config) (names : List ProcName) → let run = history (opening k) names in
     (i : ℕ) (h : Happened) (o : Outcome) → slice_get run i ≡ Some h → h.deed.asked ≡ Some (q, o) → granted o ≡ test k (take i run) h
