@@ -3,13 +3,14 @@
 ghost use Rattle.std.specs.Prelude.{◌≡◌, ◌≤◌, length, IfOk};
 ghost use Rattle.config_text.specs.Valid.{IsValid};
 
+use crate::sections::store;
 use config_text::{Config, read_config};
 use loader::{opening_machine, volume_after};
 use machine::{Machine, MachineParts};
 use std::alloc::Global;
 use std::test::Fail;
 use volume_image::Image;
-use words_layout::{Addr, Op, PlainWords, WordPort};
+use words_layout::{Addr, PlainWords};
 
 /// The classes low, mid and top are of volume 1, far is of volume 2, and bare of none.
 const TEXT: &str =
@@ -87,19 +88,9 @@ fn config_of(alloc: Global) -> Result<Config, Fail>
     }
 }
 
-fn store(words: &mut PlainWords, class: u32, place: u32, value: u64) -> Option<()>
-    ensures { length words.new ≡ length words.old }
-{
-    if class >= 5 || place >= 34_869 {
-        return None;
-    }
-    let addr = 34_869 * class + place;
-    if addr as usize >= words.as_slice().len() {
-        return None;
-    }
-    let _classes = words.classes();
-    let _none = words.perform(Op::Store(Addr(addr), value));
-    Some(())
+/// The address of a place of a class.
+fn address(class: u32, place: u32) -> Option<Addr> {
+    Some(Addr(34_869u32.checked_mul(class)?.checked_add(place)?))
 }
 
 /// Each word put in its place.
@@ -107,7 +98,8 @@ fn store_all(words: &mut PlainWords, list: &[(u32, u32, u64)]) -> Result<(), Fai
     ensures { length words.new ≡ length words.old }
 {
     for (class, place, value) in list {
-        store(words, *class, *place, *value).ok_or("a word")?;
+        let addr = address(*class, *place).ok_or("an address")?;
+        store(words, addr, *value).ok_or("a word")?;
     }
     Ok(())
 }

@@ -38,11 +38,17 @@ fn configuration(alloc: Global) -> Result<Config, Fail>
     }
 }
 
+/// The bytes of the image.
+fn image() -> [u8; 42] {
+    IMAGE
+}
+
 /// The volume of the image.
 fn volume(alloc: Global, config: &Config) -> Result<Volume, Fail>
     ensures { IfOk result (λ v. IsVolume config.now.table v) }
 {
-    match read_volume(alloc, &IMAGE, &config.table) {
+    let image = image();
+    match read_volume(alloc, &image, &config.table) {
         Ok(volume) => Ok(volume),
         Err(_) => Err(Fail::from("a volume")),
     }

@@ -1,6 +1,8 @@
 //! What the loader makes of a configuration without records on two processors, and of one of three classes with two volumes.
 
-ghost use Rattle.std.specs.Prelude.{◌≡◌, ◌&&◌, not, IfOk};
+ghost use Rattle.std.specs.Prelude.{◌≡◌, ◌≤◌, ◌&&◌, not, IfOk, length};
+ghost use Rattle.script_asm.specs.Spelling.{max_text};
+ghost use Rattle.config_text.specs.Valid.{IsValid};
 ghost use Rattle.volume_image.specs.Valid.{IsVolume};
 ghost use Rattle.loader.specs.Records.{AreVolumes, names_volume};
 
@@ -42,7 +44,9 @@ const SECOND: [Line; 3] = [
 ];
 
 /// A volume, a place in it and the line that is put there, and the fault.
-const FAULTS: [(u8, usize, Line, (u8, u16, u8)); 8] = [
+type Fault = (u8, usize, Line, (u8, u16, u8));
+
+const FAULTS: [Fault; 8] = [
     (1, 1, (0, 2, 2, 0, 0, 1, None), (1, 1, 1)),
     (2, 0, (0, 5, 2, 0, 0, 2, None), (2, 0, 2)),
     (1, 2, (0, 5, 1, 0, 3, 3, None), (1, 2, 3)),
@@ -56,7 +60,9 @@ const FAULTS: [(u8, usize, Line, (u8, u16, u8)); 8] = [
 /// A word by its class and its place among those of the class, with its value among all words and among what is left of them
 /// for the middle class. The next serial stands at 4, the home of segment u at 5 + 15 u and its entries from 12 + 15 u on, the
 /// tenant of page g at 16,405 + 65 g and its words from 16,406 + 65 g on.
-const EXPECTED: [(u32, u32, u64, u64); 20] = [
+type Word = (u32, u32, u64, u64);
+
+const EXPECTED: [Word; 20] = [
     (0, 4, 7, 7),
     (1, 4, 1, 1),
     (2, 4, 1, 0),
@@ -105,12 +111,33 @@ fn ended(machine: &Machine<PlainWords>, class: u8) -> Option<bool> {
     }
 }
 
-/// The machine of the text.
-fn opened(alloc: Global) -> Result<Machine<PlainWords>, Fail> {
-    match read_config(alloc, TEXT.as_bytes()) {
-        Ok(config) => Ok(opening_machine(alloc, &config)?),
+/// The configuration of a text.
+fn configuration(alloc: Global, text: &str) -> Result<Config, Fail>
+    requires { length text.now ≤ max_text }
+    ensures { IfOk result (λ k. IsValid k) }
+{
+    match read_config(alloc, text.as_bytes()) {
+        Ok(config) => Ok(config),
         Err(_) => Err(Fail::from("a configuration")),
     }
+}
+
+fn two_classes(alloc: Global) -> Result<Config, Fail>
+    ensures { IfOk result (λ k. IsValid k) }
+{
+    configuration(alloc, TEXT)
+}
+
+fn three_classes(alloc: Global) -> Result<Config, Fail>
+    ensures { IfOk result (λ k. IsValid k) }
+{
+    configuration(alloc, THREE)
+}
+
+/// The machine of the first text.
+fn opened(alloc: Global) -> Result<Machine<PlainWords>, Fail> {
+    let config = two_classes(alloc)?;
+    Ok(opening_machine(alloc, &config)?)
 }
 
 /// Appends the bytes of a segment with brackets 4 5 6.
@@ -182,9 +209,7 @@ fn load(
     second: [Line; 3],
     view: Option<u8>,
 ) -> Result<Result<Machine<PlainWords>, LoadError>, Fail> {
-    let Ok(config) = read_config(alloc, THREE.as_bytes()) else {
-        return Err(Fail::from("a configuration"));
-    };
+    let config = three_classes(alloc)?;
     let first = volume_of(alloc, &config, first)?;
     let second = volume_of(alloc, &config, second)?;
     let volumes = both(alloc, &config, first, second)?;
@@ -213,23 +238,35 @@ fn with_line(lines: [Line; 3], item: usize, line: Line) -> [Line; 3] {
     changed
 }
 
+/// A slot by its processor, its class and its number, and the script and the ring of its process.
+type Slot = (u8, u8, u8, Option<(u8, u8)>);
+
+const SLOTS: [Slot; 9] = [
+    (0, 0, 0, None),
+    (0, 1, 0, Some((0, 4))),
+    (0, 1, 1, Some((1, 7))),
+    (0, 1, 2, None),
+    (1, 0, 0, Some((0, 6))),
+    (1, 0, 1, None),
+    (1, 1, 0, Some((0, 5))),
+    (1, 1, 1, None),
+    (2, 0, 0, None),
+];
+
+/// Whether each slot has its process.
+fn has_slots(machine: &Machine<PlainWords>, slots: &[Slot]) -> bool {
+    for (processor, class, slot, process) in slots {
+        if process_at(machine, *processor, *class, *slot) != *process {
+            return false;
+        }
+    }
+    true
+}
+
 #[test]
 fn a_machine_at_the_opening(rt: HostRuntime) -> Result<(), Fail> {
     let machine = opened(rt.alloc())?;
-    let slots = [
-        (0, 0, 0, None),
-        (0, 1, 0, Some((0, 4))),
-        (0, 1, 1, Some((1, 7))),
-        (0, 1, 2, None),
-        (1, 0, 0, Some((0, 6))),
-        (1, 0, 1, None),
-        (1, 1, 0, Some((0, 5))),
-        (1, 1, 1, None),
-        (2, 0, 0, None),
-    ];
-    for (processor, class, slot, process) in slots {
-        assert_eq!(rt; process_at(&machine, processor, class, slot), process);
-    }
+    assert!(rt; has_slots(&machine, &SLOTS));
     let words = machine.words().as_slice();
     assert_eq!(rt; words.len(), 2 * 34_869);
     assert_eq!(rt; words.get(3), Some(&0));
@@ -240,28 +277,40 @@ fn a_machine_at_the_opening(rt: HostRuntime) -> Result<(), Fail> {
     Ok(())
 }
 
+/// A volume with a line put in its place, where it is the one of this number.
+fn changed(lines: [Line; 3], number: u8, at: &Fault) -> [Line; 3] {
+    if number == at.0 {
+        with_line(lines, at.1, at.2)
+    } else {
+        lines
+    }
+}
+
+/// Whether the fault is found, whatever is seen of the volumes.
+fn is_found(alloc: Global, at: &Fault) -> Result<bool, Fail> {
+    for view in [None, Some(0)] {
+        let first = changed(FIRST, 1, at);
+        let second = changed(SECOND, 2, at);
+        if fault_of(load(alloc, first, second, view)?) != Some(at.3) {
+            return Ok(false);
+        }
+    }
+    Ok(true)
+}
+
+/// Whether each fault is found.
+fn are_found(alloc: Global, faults: &[Fault]) -> Result<bool, Fail> {
+    for fault in faults {
+        if !is_found(alloc, fault)? {
+            return Ok(false);
+        }
+    }
+    Ok(true)
+}
+
 #[test]
 fn faults_of_records(rt: HostRuntime) -> Result<(), Fail> {
-    for (volume, item, line, fault) in FAULTS {
-        let first = if volume == 1 {
-            with_line(FIRST, item, line)
-        } else {
-            FIRST
-        };
-        let second = if volume == 2 {
-            with_line(SECOND, item, line)
-        } else {
-            SECOND
-        };
-        assert_eq!(rt;
-            fault_of(load(rt.alloc(), first, second, None)?),
-            Some(fault)
-        );
-        assert_eq!(rt;
-            fault_of(load(rt.alloc(), first, second, Some(0))?),
-            Some(fault)
-        );
-    }
+    assert!(rt; are_found(rt.alloc(), &FAULTS)?);
     Ok(())
 }
 
@@ -280,24 +329,41 @@ fn word_at(machine: &Machine<PlainWords>, class: u32, place: u32) -> Option<u64>
     machine.words().as_slice().get(index).copied()
 }
 
+/// The words that are expected.
+fn expected() -> [Word; 20] {
+    EXPECTED
+}
+
+/// Whether each word stands in its place, in the whole and in the part.
+fn has_words(whole: &Machine<PlainWords>, part: &Machine<PlainWords>, words: &[Word]) -> bool {
+    for (class, place, all, low) in words {
+        if word_at(whole, *class, *place) != Some(*all)
+            || word_at(part, *class, *place) != Some(*low)
+        {
+            return false;
+        }
+    }
+    true
+}
+
 #[test]
 fn records_in_their_places(rt: HostRuntime) -> Result<(), Fail> {
     let whole = loaded(rt.alloc(), None)?;
     let part = loaded(rt.alloc(), Some(1))?;
-    for (class, place, all, low) in EXPECTED {
-        assert_eq!(rt; word_at(&whole, class, place), Some(all), "{class} {place}");
-        assert_eq!(rt; word_at(&part, class, place), Some(low), "{class} {place}");
-    }
+    let words = expected();
+    assert!(rt; has_words(&whole, &part, &words));
     Ok(())
 }
+
+const OF_THE_WHOLE: [Slot; 2] = [(0, 1, 0, Some((0, 4))), (0, 2, 0, Some((1, 4)))];
+
+const OF_THE_PART: [Slot; 2] = [(0, 1, 0, Some((0, 4))), (0, 2, 0, None)];
 
 #[test]
 fn processes_in_their_slots(rt: HostRuntime) -> Result<(), Fail> {
     let whole = loaded(rt.alloc(), None)?;
-    assert_eq!(rt; process_at(&whole, 0, 1, 0), Some((0, 4)));
-    assert_eq!(rt; process_at(&whole, 0, 2, 0), Some((1, 4)));
+    assert!(rt; has_slots(&whole, &OF_THE_WHOLE));
     let part = loaded(rt.alloc(), Some(1))?;
-    assert_eq!(rt; process_at(&part, 0, 1, 0), Some((0, 4)));
-    assert_eq!(rt; process_at(&part, 0, 2, 0), None);
+    assert!(rt; has_slots(&part, &OF_THE_PART));
     Ok(())
 }

@@ -14,13 +14,14 @@ use whole_machine::{ModelState, ProcName, model_section, model_step};
 fn script(alloc: Global) -> Result<Vec<Instr>, Fail> {
     let zero = register(2)?;
     let one = register(3)?;
-    let mut list = Vec::new(alloc);
-    list.push(Instr::Set(one, 1))?;
-    list.push(Instr::Out(one))?;
-    list.push(Instr::Out(one))?;
-    list.push(Instr::MakeKnown(zero, zero, one))?;
-    list.push(Instr::Halt)?;
-    Ok(list)
+    let list = [
+        Instr::Set(one, 1),
+        Instr::Out(one),
+        Instr::Out(one),
+        Instr::MakeKnown(zero, zero, one),
+        Instr::Halt,
+    ];
+    Ok(Vec::from_slice(alloc, &list)?)
 }
 
 const FIRST: ProcName = ProcName {

@@ -4,6 +4,7 @@ ghost use Rattle.std.specs.Prelude.{◌≡◌, ◌<◌, ◌/◌, ◌∷◌, [], 
 ghost use Rattle.script_lang.specs.Program.{program_ok};
 ghost use Rattle.class_model.specs.Config.{classes};
 ghost use Rattle.machine.specs.Steps.{ProcessingFits, IsBank};
+ghost use Rattle.words_layout.specs.Sizes.{class_words};
 
 use crate::parts::opened;
 use arrayvec::ArrayString;
@@ -110,7 +111,8 @@ fn bank_of(alloc: Global, shared: &Shared) -> Result<Bank, Fail>
     Ok(Bank::of(items))
 }
 
-fn store(words: &mut PlainWords, addr: Addr, value: u64) -> Option<()>
+/// Stores a word, where it is one.
+pub fn store(words: &mut PlainWords, addr: Addr, value: u64) -> Option<()>
     ensures { length words.new ≡ length words.old }
 {
     if addr.0 as usize >= words.as_slice().len() {
@@ -123,7 +125,7 @@ fn store(words: &mut PlainWords, addr: Addr, value: u64) -> Option<()>
 
 /// The words of two classes, where the first has a segment in frame 1 that has page 2 besides, and an entry.
 fn words_of(alloc: Global) -> Result<PlainWords, Fail>
-    ensures { IfOk result (λ w. length w / 34869 ≡ 2) }
+    ensures { IfOk result (λ w. length w / class_words ≡ 2) }
 {
     let seg = SegId {
         mentor: 0,

@@ -4,11 +4,12 @@ use Rattle.std.specs.Prelude.{◌≡◌, ◌≢◌, ◌<◌, ◌≤◌, ◌+◌,
 use Rattle.std.specs.List.{AllByRecursion}
 use Rattle.host_ports.specs.Ports.{Port, Told, Rose, IsPrefixPulled, PullKeeps}
 use Rattle.labels.specs.Label.{ClassEntry}
+use Rattle.script_asm.specs.Spelling.{max_text}
 use Rattle.config_text.specs.declared.config.Config.{Config as ConfigText}
 use Rattle.config_text.specs.Text.{Spells}
 use Rattle.config_text.specs.Valid.{IsValid}
 use Rattle.class_model.specs.Config.{Config, SegRecord}
-use Rattle.volume_image.specs.Volumes.{Spells as SpellsVolume}
+use Rattle.volume_image.specs.Volumes.{Spells as SpellsVolume, max_image}
 use Rattle.loader.specs.Configuration.{configuration}
 use Rattle.loader.specs.Records.{Volumes, AreVolumes, Ascend, Loads, named_by, numbers_of, records_of}
 
@@ -23,8 +24,8 @@ IfTold (Some bytes) P = P bytes
 
 -- the most bytes that a port may have: a configuration at port 0, a volume at any other
 abbrev pub limit : ℕ → ℕ
-limit zero = 1048576
-limit (suc p) = 4194304
+limit zero = max_text
+limit (suc p) = max_image
 
 -- no port has changed
 abbrev pub Untouched : Ports → Ports → Type 0

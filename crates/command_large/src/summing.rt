@@ -3,7 +3,8 @@
 ghost use Rattle.std.specs.Prelude.{◌≡◌, ◌≤◌, [], IfOk, length};
 ghost use Rattle.command_input.specs.Answer.{PortsShow};
 ghost use Rattle.command_large.specs.Summed.{LargeShows, large_data, large_events};
-ghost use Rattle.config_text.specs.Valid.{IsValid, max_events};
+ghost use Rattle.words_layout.specs.Sizes.{max_events};
+ghost use Rattle.config_text.specs.Valid.{IsValid};
 ghost use Rattle.loader.specs.Configuration.{configuration};
 ghost use Rattle.machine.specs.Banks.{machine_of};
 ghost use Rattle.machine.specs.Opening.{machine as machine_after};

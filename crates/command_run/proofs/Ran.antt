@@ -4,7 +4,7 @@ use Rattle.std.proofs.lemmas.Bool.{cases_eq}
 use Rattle.std.specs.Prelude.{Contains}
 use Rattle.host_ports.specs.Ports.{Port, Told, IsPrefixTaken, with_bytes}
 use Rattle.config_text.specs.declared.config.Config.{Config as ConfigText}
-use Rattle.config_text.specs.Valid.{max_events}
+use Rattle.words_layout.specs.Sizes.{max_events}
 use Rattle.words_layout.specs.declared.op.Event.{Event}
 use Rattle.command_input.specs.declared.status.Status.{Status}
 use Rattle.command_input.specs.declared.status.Status.TheVariants.{Done, HostFault, Unfinished}

@@ -9,7 +9,7 @@ use Rattle.command_input.specs.Input.{Ports, IfTold, IsReadWhole, InputRead, IsU
 use Rattle.command_run.specs.Headline.{report_of, machine_report_of, image_of, live_after}
 use Rattle.config_text.specs.declared.config.Config.{Config as ConfigText}
 use Rattle.config_text.specs.Text.{Spells}
-use Rattle.config_text.specs.Valid.{max_events}
+use Rattle.words_layout.specs.Sizes.{max_events}
 use Rattle.config_text.specs.Written.{written}
 use Rattle.host_ports.specs.Ports.{SameBut, IsPrefixTaken, with_bytes}
 use Rattle.loader.specs.Records.{Volumes, named_by}

@@ -3,7 +3,8 @@
 ghost use Rattle.std.specs.Prelude.{◌≡◌, ◌≤◌, List, length};
 ghost use Rattle.command_input.specs.Input.{loaded};
 ghost use Rattle.command_run.specs.Printed.{Ends, answer_of};
-ghost use Rattle.config_text.specs.Valid.{IsValid, max_events};
+ghost use Rattle.words_layout.specs.Sizes.{max_events};
+ghost use Rattle.config_text.specs.Valid.{IsValid};
 ghost use Rattle.loader.specs.Records.{AreVolumes, Loads};
 ghost use Rattle.machine.specs.Banks.{machine_of};
 ghost use Rattle.machine.specs.Opening.{machine as machine_after};

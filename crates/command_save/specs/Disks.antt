@@ -1,7 +1,7 @@
 -- What a command leaves on a disk.
 use Rattle.std.specs.Prelude.{◌≡◌, ◌⊎◌, ◌^◌, ◌<◌, ◌≤◌, ◌-◌, ℕ, List}
 use Rattle.safe_save.specs.Disk.{Only, LeavesOnly}
-use Rattle.safe_save.specs.Kept.{Image, half_in_use, length_of, kept}
+use Rattle.safe_save.specs.Kept.{Image, half_in_use, length_of, kept, max_length}
 
 -- What contracts see of the disks of a type: whether one is honest, what a read gives, which images a crash may leave now, the
 -- moment, which images a crash since a moment may have left, and how many calls have failed.
@@ -24,10 +24,6 @@ HasRisen before now = (before < now) ⊎ (now ≡ 2 ^ 64 - 1)
 -- the length that the half in use begins with
 abbrev pub length_in_use : List ℕ → ℕ
 length_in_use disk = length_of disk (half_in_use disk)
-
--- the greatest length of an image
-abbrev pub max_length : ℕ
-max_length = 4194304
 
 -- What a read gives is as it was, and a crash at any moment of the call leaves an image that a crash before it may leave.
 pub record Stays {D : Type 0} (d : Sight D) (old new : D) : Type 0 where

@@ -6,8 +6,8 @@ use Rattle.command_input.specs.declared.status.Refusal.TheVariants.{Store}
 use Rattle.command_input.specs.declared.status.PortFault.TheVariants as fault
 use Rattle.safe_save.specs.declared.keeping.SaveError.{SaveError}
 use Rattle.safe_save.specs.declared.keeping.SaveError.TheVariants as error
-use Rattle.safe_save.specs.Kept.{Image, kept}
-use Rattle.command_save.specs.Disks.{Sight, HasRisen, Stays, KeepsOldOrNew, KeepsNew, FoundNoImage, length_in_use, max_length}
+use Rattle.safe_save.specs.Kept.{Image, kept, max_length}
+use Rattle.command_save.specs.Disks.{Sight, HasRisen, Stays, KeepsOldOrNew, KeepsNew, FoundNoImage, length_in_use}
 
 -- the answer to a fault of the disk
 abbrev pub answer_of : SaveError → Status

@@ -9,10 +9,10 @@ use Rattle.command_input.specs.Answer.{ConfigCause}
 use Rattle.command_input.specs.Input.{Ports}
 use Rattle.config_text.specs.declared.config.Config.{Config as ConfigText}
 use Rattle.host_ports.specs.Ports.{IsPrefixTaken, with_bytes}
-use Rattle.safe_save.specs.Kept.{Image, kept}
+use Rattle.safe_save.specs.Kept.{Image, kept, max_length}
 use Rattle.volume_image.specs.Volumes.{Spells as SpellsVolume, IsFault as IsVolumeFault}
 use Rattle.volume_image.specs.Written.{written}
-use Rattle.command_save.specs.Disks.{Sight, HasRisen, Stays, KeepsOldOrNew, KeepsNew, FoundNoImage, length_in_use, max_length}
+use Rattle.command_save.specs.Disks.{Sight, HasRisen, Stays, KeepsOldOrNew, KeepsNew, FoundNoImage, length_in_use}
 use Rattle.command_save.specs.Read.{ConfigRead, SomeConfigRead, VolumeRead, VolumeCause}
 
 -- ---- `save`

@@ -4,7 +4,7 @@ ghost use Rattle.std.specs.Prelude.{◌≡◌, ◌↔◌, ◌≤◌, List, ℕ, 
 ghost use Rattle.command_save.specs.Disks.{Stays, sight};
 ghost use Rattle.command_save.specs.Keeping as spec;
 ghost use Rattle.command_save.specs.Keeping.{IsKept, KeepShows, KeptFails};
-ghost use Rattle.safe_save.specs.Kept.{IsStored};
+ghost use Rattle.safe_save.specs.Kept.{IsStored, max_length};
 
 use command_input::{PortFault, Refusal, Status};
 use safe_save::{Disk, SaveError, load, open};
@@ -39,7 +39,7 @@ pub fn keep<D: Disk>(disk: &mut D, bytes: &[u8]) -> Result<(), SaveError>
 
 /// Room for an image of that length.
 fn blank_image(alloc: Global, length: u64) -> Result<Vec<u8>, AllocError>
-    requires { length ≤ 4194304 }
+    requires { length ≤ max_length }
     ensures { IfOk result (λ image. vec_len image ≡ length) }
 {
     let mut image = Vec::new(alloc);

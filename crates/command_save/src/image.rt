@@ -3,6 +3,7 @@
 ghost use Rattle.std.specs.Prelude.{◌≤◌, IfOk, IfErr, length};
 ghost use Rattle.command_save.specs.Images.{AreStored, HasShortNames, IsRewritten, RewriteFails};
 ghost use Rattle.volume_image.specs.Valid.{IsVolume};
+ghost use Rattle.volume_image.specs.Volumes.{max_image};
 ghost use Rattle.volume_image.specs.Written.{written};
 
 use command_input::{Refusal, Status};
@@ -34,7 +35,7 @@ pub fn stored_bytes(
 
 /// The spelling in format 2 of the volume that an image spells, in either format. Else the answer why there is none.
 pub fn rewritten(alloc: Global, image: &[u8], table: &ClassTable) -> Result<Vec<u8>, Status>
-    requires { length image.now ≤ 4194304 }
+    requires { length image.now ≤ max_image }
     ensures written { IfOk result (λ bytes. IsRewritten table.now image.now bytes.items) }
     ensures fault { IfErr result (RewriteFails table.now image.now) }
 {

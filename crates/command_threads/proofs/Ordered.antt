@@ -4,7 +4,8 @@ use Rattle.std.proofs.lemmas.Nat.{mul-le}
 use Rattle.class_model.specs.Config.{Shared}
 use Rattle.command_input.specs.Input.{loaded}
 use Rattle.config_text.specs.declared.config.Config.{Config}
-use Rattle.config_text.specs.Valid.{IsValid, max_events}
+use Rattle.words_layout.specs.Sizes.{max_events}
+use Rattle.config_text.specs.Valid.{IsValid}
 use Rattle.loader.specs.Records.{Volumes}
 use Rattle.machine.specs.Banks.{State, machine_of}
 use Rattle.machine.specs.Machine.{Machine, run}

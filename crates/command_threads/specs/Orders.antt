@@ -2,7 +2,7 @@
 use Rattle.std.specs.Prelude.{◌≡◌, ℕ, ◌<◌, ◌≤◌, List, length, take}
 use Rattle.command_input.specs.Input.{loaded}
 use Rattle.config_text.specs.declared.config.Config.{Config as ConfigText}
-use Rattle.config_text.specs.Valid.{max_events}
+use Rattle.words_layout.specs.Sizes.{max_events}
 use Rattle.loader.specs.Records.{Volumes}
 use Rattle.machine.specs.Banks.{State, machine_of}
 use Rattle.machine.specs.Opening.{machine}

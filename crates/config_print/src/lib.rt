@@ -5,6 +5,7 @@ ghost use Rattle.std.specs.Prelude.{◌≡◌, ◌≤◌, ◌++◌, map, length,
 ghost use Rattle.std.specs.Fmt.{decimal};
 ghost use Rattle.std.specs.List.{flat_map};
 ghost use Rattle.text_lines.specs.Printed.{printed};
+ghost use Rattle.script_asm.specs.Spelling.{max_text};
 ghost use Rattle.config_text.specs.declared.config.Config.{Config as ConfigValue};
 ghost use Rattle.config_text.specs.Text.{Spells, IsReadAs};
 ghost use Rattle.config_text.specs.Valid.{IsValid};
@@ -263,7 +264,7 @@ pub fn printing_law()
 /// The configuration that its own printed text spells, which is the same, unless memory runs out.
 pub fn printed_again(alloc: Global, config: &Config) -> Result<Config, ConfigError>
     requires valid { IsValid config.now }
-    requires short { length (spec.written config.now) ≤ 1048576 }
+    requires short { length (spec.written config.now) ≤ max_text }
     ensures { IsReadAs config.now result }
 {
     let text = print_config(alloc, config)?;

@@ -20,7 +20,8 @@ use Rattle.config_text.specs.declared.stage.Stage.{Stage}
 use Rattle.config_text.specs.declared.stage.Stage.TheVariants as stage
 use Rattle.config_text.specs.declared.stage.Kind.TheVariants as kind
 use Rattle.config_text.specs.Written.{Word, gate_line, process_line}
-use Rattle.config_text.specs.Valid.{IsValid, max_events, gate_ok, process_ok, item_ok, is_class, uses_script, events_of, processes_of, within}
+use Rattle.words_layout.specs.Sizes.{max_events}
+use Rattle.config_text.specs.Valid.{IsValid, gate_ok, process_ok, item_ok, is_class, uses_script, events_of, processes_of, within}
 use Rattle.config_text.specs.Place.{Place, config_in}
 use Rattle.config_text.specs.Rules.{Text, byte, brackets_in, gate_in, gate_past, gate_line_tests, gate_tests, gate_next, with_gate, process_in, process_past, process_line_tests, process_tests, process_next, with_process, with_items, is_past, is_outside, event_parts, EventParts, is_no_event, is_misspelt_event, is_outside_event, event_count, event_item, events_tests, events_next, mix_tests, mix_next, sweep_tests, sweep_next, sweep_events, may_stand}
 use Rattle.config_text.specs.Text.{SpellsWord, Part, one_line, IsEvent, IsGroup, event_word, group_line, script_parts, as_lines, body_parts}

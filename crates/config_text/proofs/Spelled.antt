@@ -28,7 +28,8 @@ use Rattle.config_text.specs.declared.stage.Stage.TheVariants as stage
 use Rattle.config_text.specs.declared.stage.Kind.{Kind}
 use Rattle.config_text.specs.declared.stage.Kind.TheVariants as kind
 use Rattle.config_text.specs.Written.{Word, header_line, header_lines, number_line, number_lines, front_lines, class_line, class_lines, cycle_line, gate_line, process_line, end_line}
-use Rattle.config_text.specs.Valid.{IsValid, pool_ok, max_events, is_class, script_ok, gate_ok, process_ok, item_ok, uses_script, processes_of, events_of}
+use Rattle.words_layout.specs.Sizes.{max_events}
+use Rattle.config_text.specs.Valid.{IsValid, pool_ok, is_class, script_ok, gate_ok, process_ok, item_ok, uses_script, processes_of, events_of}
 use Rattle.config_text.specs.Place.{Place, start, config_in}
 use Rattle.config_text.specs.Rules.{Text, Line, is_end, body_of, begun, with_script, with_gate, with_process, with_items, may_stand, stage_rank, kind_rank, word_tests, word_next, stage_tests, stage_next, body_tests, body_next, is_unended, number_in, numbers_in, config_rules}
 use Rattle.config_text.specs.Reading.{after_body, lines_answer_from}

@@ -23,7 +23,8 @@ use Rattle.config_text.specs.declared.stage.Kind.{Kind}
 use Rattle.config_text.specs.declared.stage.Kind.TheVariants as kind
 use Rattle.config_text.specs.declared.stage.Stage.TheVariants as stage
 use Rattle.config_text.specs.Written.{Word, number, header_line, number_line, class_line, cycle_line, gate_line, process_line, end_line}
-use Rattle.config_text.specs.Valid.{pool_ok, within, max_events, gate_ok, process_ok, item_ok, is_class, uses_script, processes_of, events_of}
+use Rattle.words_layout.specs.Sizes.{max_events}
+use Rattle.config_text.specs.Valid.{pool_ok, within, gate_ok, process_ok, item_ok, is_class, uses_script, processes_of, events_of}
 use Rattle.config_text.specs.Place.{Place, config_in}
 use Rattle.config_text.specs.Rules.{Text, Line, byte, is_outside, has_past, header_tests, number_tests, number_in, fixed_tests, pool_tests, front_tests, entry_tests, class_tests, class_next, with_class, pool_in, stood_before, is_low, cycle_tests, numbers_in, script_tests, script_next_place, begun, gate_tests, gate_next, gate_line_tests, with_gate, process_tests, process_next, process_line_tests, with_process, events_tests, events_next, with_items, is_past, is_no_event, is_misspelt_event, is_outside_event, event_count, event_item, mix_tests, mix_next, sweep_tests, sweep_next, sweep_events, end_tests, kind_of, may_stand, kind_tests, kind_next, body_tests, body_next}
 use Rattle.config_text.specs.Text.{SpellsWord, IsEvent, IsGroup, event_word, group_line}

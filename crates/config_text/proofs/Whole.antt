@@ -25,7 +25,8 @@ use Rattle.config_text.specs.declared.stage.Stage.{Stage}
 use Rattle.config_text.specs.declared.stage.Stage.TheVariants as stage
 use Rattle.config_text.specs.declared.stage.Kind.TheVariants as kind
 use Rattle.config_text.specs.Written.{Word, fixed, number, header_line, number_line, number_lines, header_lines, front_lines, class_line, class_lines, cycle_line, gate_line, process_line, end_line}
-use Rattle.config_text.specs.Valid.{IsValid, pool_ok, events_of, max_events, within}
+use Rattle.words_layout.specs.Sizes.{max_events}
+use Rattle.config_text.specs.Valid.{IsValid, pool_ok, events_of, within}
 use Rattle.config_text.specs.Codes.{code_number}
 use Rattle.config_text.specs.Place.{Place, place_of, start, config_in}
 use Rattle.config_text.specs.Rules.{Text, Line, stage_rank, number_in, numbers_in, stood_before, is_low, with_class, config_rules}

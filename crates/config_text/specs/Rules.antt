@@ -26,7 +26,8 @@ use Rattle.config_text.specs.declared.stage.Stage.{Stage}
 use Rattle.config_text.specs.declared.stage.Stage.TheVariants as stage
 use Rattle.config_text.specs.declared.stage.Kind.{Kind}
 use Rattle.config_text.specs.declared.stage.Kind.TheVariants as kind
-use Rattle.config_text.specs.Valid.{within, max_events, uses_script, processes_of}
+use Rattle.words_layout.specs.Sizes.{max_events}
+use Rattle.config_text.specs.Valid.{within, uses_script, processes_of}
 use Rattle.config_text.specs.Codes.{code_number, of_script}
 use Rattle.config_text.specs.Place.{Inside, Place, config_in}
 

@@ -6,6 +6,7 @@ use Rattle.text_lines.specs.Name.{is_name}
 use Rattle.labels.specs.Label.{class_at, at_or_below}
 use Rattle.labels.specs.Table.{IsTable}
 use Rattle.rings.specs.Brackets.{in_order}
+use Rattle.words_layout.specs.Sizes.{max_events, most_frames, most_pages}
 use Rattle.script_lang.specs.Program.{program_ok}
 use Rattle.script_lang.specs.declared.instr.Instr.{Instr}
 use Rattle.script_lang.specs.declared.instr.Instr.TheVariants as I
@@ -21,17 +22,13 @@ use Rattle.config_text.specs.declared.config.Config.{Config}
 abbrev pub within : ℕ → ℕ → ℕ → Bool
 within low high n = nat_le low n && nat_le n high
 
--- the most events of a schedule
-abbrev pub max_events : ℕ
-max_events = 4194304
-
 -- the class is in the table
 abbrev pub is_class : Config → ℕ → Bool
 is_class k c = nat_lt c (length k.table)
 
--- at most 16 frames, 32 pages and volume 4
+-- the frames and pages that the layout has, and volume 4 at most
 abbrev pub pool_ok : Pool → Bool
-pool_ok p = nat_le p.frames 16 && nat_le p.pages 32 && nat_le p.volume 4
+pool_ok p = nat_le p.frames most_frames && nat_le p.pages most_pages && nat_le p.volume 4
 
 -- one pool for each class
 abbrev pub pools_ok : Config → Bool

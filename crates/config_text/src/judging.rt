@@ -133,14 +133,14 @@ fn is_same(entry: &(ArrayString<16>, Label), name: &[u8], label: &Label) -> bool
 }
 
 /// Whether an earlier class has the name or the label.
-fn stood_before(entries: &[(ArrayString<16>, Label)], name: &[u8], label: &Label) -> bool
+pub fn stood_before(entries: &[(ArrayString<16>, Label)], name: &[u8], label: &Label) -> bool
     ensures { result ≡ spec.stood_before (map entry_of entries.now) name.now label.now }
 {
     entries.iter().any(|entry| is_same(entry, name, label))
 }
 
 /// Whether the label doesn't dominate that of class 0.
-fn is_low(entries: &[(ArrayString<16>, Label)], label: &Label) -> bool
+pub fn is_low(entries: &[(ArrayString<16>, Label)], label: &Label) -> bool
     ensures { result ≡ spec.is_low (map entry_of entries.now) label.now }
 {
     match entries {

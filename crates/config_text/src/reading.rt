@@ -3,6 +3,7 @@
 ghost use Rattle.std.specs.Prelude.{◌≡◌, ◌+◌, ◌^◌, ◌<◌, ◌≤◌, ℕ, IfOk, length, map};
 ghost use Rattle.text_lines.specs.Lines.{lines, views};
 ghost use Rattle.labels.specs.Table.{IsTable, entry_of};
+ghost use Rattle.script_asm.specs.Spelling.{max_text};
 ghost use Rattle.config_text.specs.declared.fault.ConfigError.TheVariants.{Fault};
 ghost use Rattle.config_text.specs.declared.config.Config.{Config as ConfigValue};
 ghost use Rattle.config_text.specs.Codes.{code_number};
@@ -125,7 +126,7 @@ fn line_list(alloc: Global, text: &[u8]) -> Result<Vec<&[u8]>, AllocError>
 /// The configuration that the text spells, or its first faulty line with that line's least code. The text has at most
 /// 1,048,576 bytes.
 pub fn read_config(alloc: Global, text: &[u8]) -> Result<Config, ConfigError>
-    requires { length text.now ≤ 1048576 }
+    requires { length text.now ≤ max_text }
     // What is read is spelled so, and a fault is the first one, with its least code.
     ensures right { AnswersText text.now result }
     // What is spelled so is read, and what is faulty is refused with that fault, unless memory runs out.

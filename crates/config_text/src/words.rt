@@ -7,7 +7,7 @@ ghost use Rattle.text_lines.specs.Name.{is_name as spec_is_name};
 ghost use Rattle.text_lines.specs.Number.{misspelt, value_of};
 ghost use Rattle.labels.specs.Reading.{label_of_text};
 ghost use Rattle.config_text.specs.Rules as spec;
-ghost use Rattle.config_text.specs.Valid.{max_events};
+ghost use Rattle.words_layout.specs.Sizes.{max_events};
 ghost use Rattle.config_text.specs.Views.{class_view, event_view};
 ghost use Rattle.config_text.specs.Place.{Place};
 ghost use Rattle.labels.specs.Label.{ClassEntry};

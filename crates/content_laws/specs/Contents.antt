@@ -2,6 +2,7 @@
 use Rattle.std.specs.Prelude.{ℕ, zero, suc, ◌+◌, ◌-◌, ◌^◌, ◌≤◌, ◌≡◌, ◌⊎◌, if◌then◌else◌, true, Bool, not, ◌&&◌, List, [], ◌∷◌, length, count_by, reverse, take, Option, Some, None, is_some, slice_get}
 use Rattle.std.specs.List.{list_all}
 use Rattle.lists.specs.Lists.{part_of}
+use Rattle.words_layout.specs.Sizes.{max_events}
 use Rattle.words_layout.specs.Segments.{same_seg}
 use Rattle.words_layout.specs.declared.segment.SegId.{SegId}
 use Rattle.words_layout.specs.declared.op.Event.{Event}
@@ -105,4 +106,4 @@ AllStep a (n ∷ names) = (is_some (deed a n) ≡ true) × AllStep (step a n) na
 
 -- each name of the order of effect makes a step
 abbrev pub EffectsAreSteps : Type 0
-EffectsAreSteps = (k : Config) (events : List Event) → IsConfig k → length events ≤ 4194304 → AllStep (opening k) (effects k events)
+EffectsAreSteps = (k : Config) (events : List Event) → IsConfig k → length events ≤ max_events → AllStep (opening k) (effects k events)

@@ -20,7 +20,8 @@ use Rattle.machine.specs.Stands.{NotInTurn, NoTurn}
 use Rattle.effect_laws.proofs.Guards.{just, inner_hold, covers, mix}
 use Rattle.effect_laws.proofs.Paths.{LoadsPath, InnerPath, OuterPath, LoadsWithin, InnerWithin, OuterWithin}
 use Rattle.effect_laws.proofs.StepKinds.{writing, Nested}
-use Rattle.effect_laws.proofs.Turns.{TicketOk, Held, at_slot}
+use Rattle.effect_laws.specs.Turns.{Held}
+use Rattle.effect_laws.proofs.Turns.{TicketOk, at_slot}
 use Rattle.effect_laws.proofs.Slots.{weight, count_inside}
 use Rattle.effect_laws.proofs.TurnStep.{TurnsUpTo}
 

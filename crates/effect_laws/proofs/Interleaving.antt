@@ -22,7 +22,8 @@ use Rattle.machine.specs.Stands.{NotInTurn, NoTurn}
 use Rattle.effect_laws.proofs.Guards.{Hold, just, both, inner_hold, covers, may_store, Apart, Changed, mix, ext, over-covered, set_over, store_covers, cover_more, class_in_both}
 use Rattle.effect_laws.proofs.Paths.{LoadsPath, InnerPath, OuterPath, LoadsWithin, InnerWithin, OuterWithin, loads_along, inner_along, outer_along, loads_run, inner_run, outer_run, inner_changed, outer_changed}
 use Rattle.effect_laws.proofs.StepKinds.{writing, Kind, calm, store, commit, outer_kept, inner_kept, loads_kept, Nested, nested_kept, nested_changed, idle_kept}
-use Rattle.effect_laws.proofs.Turns.{TicketOk, Held, SlotHeld, at_slot, SlotIs, mine, born, kept}
+use Rattle.effect_laws.specs.Turns.{Held}
+use Rattle.effect_laws.proofs.Turns.{TicketOk, SlotHeld, at_slot, SlotIs, mine, born, kept}
 use Rattle.effect_laws.proofs.Slots.{IsChosen, part_after, slots-after, heft}
 use Rattle.effect_laws.proofs.TurnStep.{TurnsUpTo, After, step_ok, chosen_keeps, absorb_fits}
 use Rattle.effect_laws.proofs.Committed.{Asks, TurnKnown, DoingOk, SlotDoing, SlotFree, Committed, Fair, writing_inside, free_outside, writing_held, not-one, no-turn, put-here, put-there, commit_by, plan_calm}

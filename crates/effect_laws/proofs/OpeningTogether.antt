@@ -12,14 +12,16 @@ use Rattle.class_model.specs.Process.{Process}
 use Rattle.class_model.specs.Run.{opening_slots}
 use Rattle.class_model.specs.Run.{opening as whole_opening}
 use Rattle.class_model.specs.Valid.{IsConfig, uses_script}
+use Rattle.turns.specs.Stage.{Stage, Outside}
 use Rattle.process.specs.Running.{Running}
 use Rattle.machine.specs.Machine.{ClassPart}
 use Rattle.machine.specs.Opening.{opening, opening_guarded, at_rest}
 use Rattle.flow_laws.proofs.OpeningFits.{FromLine, from_line}
 use Rattle.report_laws.proofs.OpeningHolds.{opening_holds}
 use Rattle.report_laws.proofs.Recorded.{valid_records}
-use Rattle.effect_laws.proofs.Turns.{at_slot, slot_stage, TicketOk, SlotHeld}
-use Rattle.effect_laws.proofs.Slots.{weight}
+use Rattle.effect_laws.specs.Turns.{stage_of, over_slots, one_holding}
+use Rattle.effect_laws.proofs.Turns.{at_slot, TicketOk, SlotHeld}
+use Rattle.effect_laws.proofs.Slots.{heft}
 use Rattle.effect_laws.proofs.TurnStep.{TurnsUpTo}
 use Rattle.effect_laws.proofs.Committed.{SlotDoing}
 use Rattle.effect_laws.proofs.WholeRun.{Together}
@@ -36,13 +38,18 @@ resting slots i = slice_index_or (map (option_map at_rest) slots) i None
 resting_is : (slots : List (Option Process)) (i : ℕ) → resting slots i ≡ option_map at_rest (slice_index_or slots i None)
 resting_is slots i = get_or-map (option_map at_rest) slots i None
 
-module _ (g : Guard) where
-  no_weight : (slots : List (Option Process)) → sum_by (weight g) (map (option_map at_rest) slots) ≡ 0
-  no_weight [] = refl
-  no_weight (None ∷ slots) = let e = sum_by-cons (weight g) None (map (option_map at_rest) slots) in let t = no_weight slots in omega (arith, e, t)
-  no_weight (Some p ∷ slots) = let e = sum_by-cons (weight g) (Some (at_rest p)) (map (option_map at_rest) slots) in let t = no_weight slots in omega (arith, e, t)
+-- at rest a process weighs nothing, by any weight of a stage by which who is outside a turn weighs nothing
+module _ (f : Stage → ℕ) (outside : f Outside ≡ 0) (g : Guard) where
+  abbrev weighs : Option Running → ℕ
+  weighs o = f (stage_of g o)
 
-  rest_ticket : (o : Option Process) → TicketOk 0 0 (slot_stage g (option_map at_rest o))
+  no_weight : (slots : List (Option Process)) → sum_by weighs (map (option_map at_rest) slots) ≡ 0
+  no_weight [] = refl
+  no_weight (None ∷ slots) = let e = sum_by-cons weighs None (map (option_map at_rest) slots) in let t = no_weight slots in omega (arith, e, t, outside)
+  no_weight (Some p ∷ slots) = let e = sum_by-cons weighs (Some (at_rest p)) (map (option_map at_rest) slots) in let t = no_weight slots in omega (arith, e, t, outside)
+
+module _ (g : Guard) where
+  rest_ticket : (o : Option Process) → TicketOk 0 0 (stage_of g (option_map at_rest o))
   rest_ticket None = tt
   rest_ticket (Some p) = tt
 
@@ -60,12 +67,18 @@ module _ (k : Config) (valid : IsConfig k) where
   abbrev slots_of : ℕ → ℕ → List (Option Process)
   slots_of d p = opening_slots k d p
 
+  none_counts : (d : ℕ) (f : Stage → ℕ) → f Outside ≡ 0 → (g : Guard) → over_slots (λ o. f (stage_of g o)) (m d) ≡ 0
+  none_counts d f outside g =
+      let a = no_weight f outside g (slots_of d 0) in let b = no_weight f outside g (slots_of d 1) in
+      let c = no_weight f outside g (slots_of d 2) in let e = no_weight f outside g (slots_of d 3) in omega (arith, a, b, c, e)
+
   turns : (d : ℕ) (g : Guard) → TurnsUpTo 0 g (m d)
   turns d g = record {
     turns = record {
-      starts = (let a = no_weight g (slots_of d 0) in let b = no_weight g (slots_of d 1) in let c = no_weight g (slots_of d 2) in let e = no_weight g (slots_of d 3) in omega (arith, a, b, c, e));
+      starts = let e = none_counts d heft refl g in omega (arith, e);
+      drawn = let e = none_counts d one_holding refl g in omega (arith, e);
       order = omega arith;
-      slots = λ p i. subst (λ o. TicketOk 0 0 (slot_stage g o)) (sym (resting_is (slots_of d p) i)) (rest_ticket g (slice_index_or (slots_of d p) i None));
+      slots = λ p i. subst (λ o. TicketOk 0 0 (stage_of g o)) (sym (resting_is (slots_of d p) i)) (rest_ticket g (slice_index_or (slots_of d p) i None));
       distinct = λ p i q j t h l. absurd (rest_held g (slice_index_or (slots_of d p) i None) t (subst (λ o. SlotHeld g o t) (resting_is (slots_of d p) i) h));
     };
     started = omega arith;

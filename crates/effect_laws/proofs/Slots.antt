@@ -13,10 +13,11 @@ use Rattle.words_layout.specs.Words.{Words, WordOp, words_after, answer_to}
 use Rattle.class_model.specs.Config.{Shared}
 use Rattle.words_layout.specs.Words.{Guard}
 use Rattle.turns.specs.Doing.{Fresh}
-use Rattle.turns.specs.Stage.{Stage, stage, inside}
+use Rattle.turns.specs.Stage.{Stage, Outside, stage, inside}
 use Rattle.process.specs.Running.{Running, Made, Line, Child, Absorbed, absorb, next_op}
 use Rattle.machine.specs.Machine.{ClassPart, VirtualProcessor, slot_at, is_live, live_slot, turn_of, chosen, free_slot, slots_after, vp_absorbed, vp_chosen, part_step}
 use Rattle.report_laws.proofs.Paged.{find_true}
+use Rattle.effect_laws.specs.Turns.{over_slots, one_holding, stage_of}
 use Rattle.effect_laws.proofs.Turns.{at_slot, SlotIs, mine, born, kept}
 
 -- a slot with a process is one of the list
@@ -100,32 +101,36 @@ module _ (s : Shared) (words : Words) (here : ClassPart) (p i : ℕ) (r : Runnin
         | false ↦ λ e. kept (λ a b. eqb-false q p e a)
       ] refl
 
--- how many processes of a class are inside a turn of a guard, on its four processors
+-- one for a process inside a turn
 abbrev pub heft : Stage → ℕ
 heft x = if inside x then 1 else 0
 
-module _ (g : Guard) where
-  abbrev pub weight : Option Running → ℕ
-  weight None = 0
-  weight (Some r) = heft (stage g r.doing)
+-- how many processes of a class are inside a turn of a guard, on its four processors
+abbrev pub weight : Guard → Option Running → ℕ
+weight g o = heft (stage_of g o)
 
-  abbrev pub inside_vp : VirtualProcessor → ℕ
-  inside_vp v = sum_by weight v.slots
+abbrev pub count_inside : Guard → ClassPart → ℕ
+count_inside g part = over_slots (weight g) part
 
-  abbrev pub count_inside : ClassPart → ℕ
-  count_inside part = inside_vp (part.vp 0) + (inside_vp (part.vp 1) + (inside_vp (part.vp 2) + inside_vp (part.vp 3)))
+-- likewise by any weight of a stage, where who is outside weighs nothing
+module _ (f : Stage → ℕ) (outside : f Outside ≡ 0) (g : Guard) where
+  abbrev weighs : Option Running → ℕ
+  weighs o = f (stage_of g o)
+
+  abbrev weight_of : VirtualProcessor → ℕ
+  weight_of v = sum_by weighs v.slots
 
   -- a child is inside no turn, and neither is an empty slot
-  inside-slots : (s : Shared) (v : VirtualProcessor) (i : ℕ) (r : Running) (x : Absorbed) → slot_at v i ≡ Some r → FitsMade v x.made →
-      inside_vp (vp_absorbed s v i x) + weight (Some r) ≡ inside_vp v + weight (Some x.running)
-  inside-slots s v i r x was made = by_made x.made made
+  weight-slots : (s : Shared) (v : VirtualProcessor) (i : ℕ) (r : Running) (x : Absorbed) → slot_at v i ≡ Some r → FitsMade v x.made →
+      weight_of (vp_absorbed s v i x) + weighs (Some r) ≡ weight_of v + weighs (Some x.running)
+  weight-slots s v i r x was made = by_made x.made made
     where
-      mine_set : inside_vp (record v { slots = slice_set v.slots i (Some x.running) }) + weight (Some r) ≡ inside_vp v + weight (Some x.running)
-      mine_set = ap (λ (o : Option Running). inside_vp (record v { slots = slice_set v.slots i (Some x.running) }) + weight o) (sym was)
-          ∙ sum_by-set weight v.slots i (Some x.running) None (slot-below v.slots i r was)
+      mine_set : weight_of (record v { slots = slice_set v.slots i (Some x.running) }) + weighs (Some r) ≡ weight_of v + weighs (Some x.running)
+      mine_set = ap (λ (o : Option Running). weight_of (record v { slots = slice_set v.slots i (Some x.running) }) + weighs o) (sym was)
+          ∙ sum_by-set weighs v.slots i (Some x.running) None (slot-below v.slots i r was)
 
       by_made : (y : Made) → FitsMade v y →
-          inside_vp (record v { slots = slots_after (slice_set v.slots i (Some x.running)) y }) + weight (Some r) ≡ inside_vp v + weight (Some x.running)
+          weight_of (record v { slots = slots_after (slice_set v.slots i (Some x.running)) y }) + weighs (Some r) ≡ weight_of v + weighs (Some x.running)
       by_made Made.Nothing h = mine_set
       by_made (Line place value) h = mine_set
       by_made (Child k child) h =
@@ -133,28 +138,28 @@ module _ (g : Guard) where
           position-Some (λ r. is_none r) v.slots k None h in
           let differs : k ≢ i = (λ e. none_some (slot_at v k) free.1 (rw e was)) in
           let still : slice_index_or (slice_set v.slots i (Some x.running)) k None ≡ slot_at v k = get_or-set_other v.slots i k (Some x.running) None differs in
-          let zero_weight : weight (slot_at v k) ≡ 0 = none_weight (slot_at v k) free.1 in
-          let sum_child = sum_by-set weight (slice_set v.slots i (Some x.running)) k (Some (record { process = child; doing = Fresh })) None (rw length-set free.0) in
-          let sum_child' : sum_by weight (slice_set (slice_set v.slots i (Some x.running)) k (Some (record { process = child; doing = Fresh }))) + 0 ≡ sum_by weight (slice_set v.slots i (Some x.running)) + 0 =
-          rw (still, zero_weight) at sum_child in
+          let zero_weight : weighs (slot_at v k) ≡ 0 = none_weight (slot_at v k) free.1 in
+          let sum_child = sum_by-set weighs (slice_set v.slots i (Some x.running)) k (Some (record { process = child; doing = Fresh })) None (rw length-set free.0) in
+          let sum_child' : sum_by weighs (slice_set (slice_set v.slots i (Some x.running)) k (Some (record { process = child; doing = Fresh }))) + 0 ≡ sum_by weighs (slice_set v.slots i (Some x.running)) + 0 =
+          rw (still, zero_weight, outside) at sum_child in
           omega (arith, sum_child', mine_set)
         where
           none_some : (o : Option Running) → is_none o ≡ true → o ≡ Some r → ⊥
           none_some None a b = cc
           none_some (Some y) a b = cc
 
-          none_weight : (o : Option Running) → is_none o ≡ true → weight o ≡ 0
-          none_weight None a = refl
+          none_weight : (o : Option Running) → is_none o ≡ true → weighs o ≡ 0
+          none_weight None a = outside
           none_weight (Some y) a = cc
 
-  pub inside-after : (s : Shared) (words : Words) (here : ClassPart) (p i : ℕ) (r : Running) (x : Absorbed) → p < 4 →
+  pub weight-after : (s : Shared) (words : Words) (here : ClassPart) (p i : ℕ) (r : Running) (x : Absorbed) → p < 4 →
       slot_at (here.vp p) i ≡ Some r → FitsMade (here.vp p) x.made →
-      count_inside (part_after s words here p i x) + weight (Some r) ≡ count_inside here + weight (Some x.running)
-  inside-after s words here zero i r x small was made = let e = inside-slots s (here.vp 0) i r x was made in omega (arith, e)
-  inside-after s words here (suc zero) i r x small was made = let e = inside-slots s (here.vp 1) i r x was made in omega (arith, e)
-  inside-after s words here (suc (suc zero)) i r x small was made = let e = inside-slots s (here.vp 2) i r x was made in omega (arith, e)
-  inside-after s words here (suc (suc (suc zero))) i r x small was made = let e = inside-slots s (here.vp 3) i r x was made in omega (arith, e)
-  inside-after s words here (suc (suc (suc (suc k)))) i r x small was made = absurd (omega arith)
+      over_slots weighs (part_after s words here p i x) + weighs (Some r) ≡ over_slots weighs here + weighs (Some x.running)
+  weight-after s words here zero i r x small was made = let e = weight-slots s (here.vp 0) i r x was made in omega (arith, e)
+  weight-after s words here (suc zero) i r x small was made = let e = weight-slots s (here.vp 1) i r x was made in omega (arith, e)
+  weight-after s words here (suc (suc zero)) i r x small was made = let e = weight-slots s (here.vp 2) i r x was made in omega (arith, e)
+  weight-after s words here (suc (suc (suc zero))) i r x small was made = let e = weight-slots s (here.vp 3) i r x was made in omega (arith, e)
+  weight-after s words here (suc (suc (suc (suc k)))) i r x small was made = absurd (omega arith)
 
 -- the step of a class's part, by the process that is chosen
 abbrev pub part_taken : Shared → (ℕ → Words) → ℕ → ClassPart → ℕ → Option (ℕ × Running) → ClassPart

@@ -15,8 +15,9 @@ use Rattle.class_model.specs.Process.{Process}
 use Rattle.class_model.specs.Plan.{Plan, Own, Begin, Ask, Request, MakeKnown, Create, Delete, SwapIn, SwapOut, Fetch, Update, Read, Advance, Ticket, Out, plan}
 use Rattle.process.specs.Running.{Running, act, plan_op, running_op, next_op, Absorbed, absorb, made_of, begin_in, plan_absorbed, doing_absorbed}
 use Rattle.machine.specs.Machine.{ClassPart, VirtualProcessor, free_slot}
-use Rattle.effect_laws.proofs.Turns.{TicketOk, Held, Turns, turns_after}
-use Rattle.effect_laws.proofs.Slots.{IsChosen, FitsMade, part_after, slots-after, heft, weight, count_inside, inside-after}
+use Rattle.effect_laws.specs.Turns.{Held, one_holding, holding}
+use Rattle.effect_laws.proofs.Turns.{TicketOk, Turns, turns_after}
+use Rattle.effect_laws.proofs.Slots.{IsChosen, FitsMade, part_after, slots-after, heft, weight, count_inside, weight-after}
 
 -- what a step may do to the numbers of a guard's turns: started, finished, tickets, before and after
 pub record StepOk (s c t s' c' t' : ℕ) (old new : Stage) : Type 0 where
@@ -26,6 +27,7 @@ pub record StepOk (s c t s' c' t' : ℕ) (old new : Stage) : Type 0 where
   pub s_step : s ≤ s'
   pub s_most : s' ≤ s + 1
   pub balance : s' + c + heft old ≡ c' + s + heft new
+  pub drawn : t' + c + one_holding old ≡ c' + t + one_holding new
   pub order : c' ≤ t'
   pub new_ok : TicketOk c' t' new
   pub new_held : (u : ℕ) → Held new u → Held old u ⊎ (t ≤ u)
@@ -35,21 +37,22 @@ one_more : (n : ℕ) → n < 2 ^ 64 - 1 → (n + 1) % 2 ^ 64 ≡ n + 1
 one_more n h = omega arith
 
 module _ (s c t : ℕ) (order : c ≤ t) (s_small : s < 2 ^ 64 - 1) (t_small : t < 2 ^ 64 - 1) where
-  quiet : (old new : Stage) → heft old ≡ heft new → TicketOk c t new → ((u : ℕ) → Held new u → Held old u ⊎ (t ≤ u)) → StepOk s c t s c t old new
-  quiet old new eh ok held = record {
+  quiet : (old new : Stage) → heft old ≡ heft new → one_holding old ≡ one_holding new → TicketOk c t new → ((u : ℕ) → Held new u → Held old u ⊎ (t ≤ u)) → StepOk s c t s c t old new
+  quiet old new eh oh ok held = record {
     c_step = inl refl;
     t_step = omega arith;
     t_most = omega arith;
     s_step = omega arith;
     s_most = omega arith;
     balance = omega (arith, eh);
+    drawn = omega (arith, oh);
     order = order;
     new_ok = ok;
     new_held = held;
   }
 
   same : (x : Stage) → TicketOk c t x → StepOk s c t s c t x x
-  same x ok = quiet x x refl ok (λ u h. inl h)
+  same x ok = quiet x x refl refl ok (λ u h. inl h)
 
   begins : StepOk s c t ((s + 1) % 2 ^ 64) c t Outside Begun
   begins = let e : (s + 1) % 2 ^ 64 ≡ s + 1 = one_more s s_small in record {
@@ -59,6 +62,7 @@ module _ (s c t : ℕ) (order : c ≤ t) (s_small : s < 2 ^ 64 - 1) (t_small : t
     s_step = omega (arith, e);
     s_most = omega (arith, e);
     balance = omega (arith, e);
+    drawn = omega arith;
     order = order;
     new_ok = tt;
     new_held = λ u h. absurd h;
@@ -72,13 +76,14 @@ module _ (s c t : ℕ) (order : c ≤ t) (s_small : s < 2 ^ 64 - 1) (t_small : t
     s_step = omega arith;
     s_most = omega arith;
     balance = omega arith;
+    drawn = omega (arith, e);
     order = omega (arith, e, order);
     new_ok = (order, omega (arith, e));
     new_held = λ u h. inr (omega (arith, h));
   }
 
   arrives : (u : ℕ) → TicketOk c t (Waits u) → c ≡ u → StepOk s c t s c t (Waits u) (Has u)
-  arrives u ok e = quiet (Waits u) (Has u) refl (sym e, ok.1) (λ v h. inl h)
+  arrives u ok e = quiet (Waits u) (Has u) refl refl (sym e, ok.1) (λ v h. inl h)
 
   finishes : (u : ℕ) → TicketOk c t (Has u) → StepOk s c t s ((c + 1) % 2 ^ 64) t (Has u) Outside
   finishes u ok = let e : (c + 1) % 2 ^ 64 ≡ c + 1 = one_more c (omega (arith, ok.0, ok.1)) in record {
@@ -88,6 +93,7 @@ module _ (s c t : ℕ) (order : c ≤ t) (s_small : s < 2 ^ 64 - 1) (t_small : t
     s_step = omega arith;
     s_most = omega arith;
     balance = omega (arith, e);
+    drawn = omega (arith, e);
     order = omega (arith, e, ok.0, ok.1);
     new_ok = tt;
     new_held = λ v h. absurd h;
@@ -331,7 +337,7 @@ absorb_fits s d v p answer x = made_of_fits v (doing_told x answer).takes
 
 -- the turns of a guard of a class, and that the numbers fit
 pub record TurnsUpTo (n : ℕ) (g : Guard) (part : ClassPart) : Type 0 where
-  pub turns : Turns g (count_inside g) part
+  pub turns : Turns g (count_inside g) (holding g) part
   pub started : part.words.started g ≤ n
   pub tickets : part.words.tickets g ≤ n
 
@@ -356,10 +362,12 @@ module _ (g : Guard) (s : Shared) (d n : ℕ) (words : ℕ → Words) (here : Cl
       let made : FitsMade (here.vp p) x.made = absorb_fits s d (here.vp p) r.process (answer_to words d op) r.doing in
       let after : ClassPart = part_after s (words_after here.words op) here p i x in
       let count : count_inside g after + weight g (Some r) ≡ count_inside g here + weight g (Some x.running) =
-      inside-after g s (words_after here.words op) here p i r x small is.there made in
+      weight-after heft refl g s (words_after here.words op) here p i r x small is.there made in
+      let held : holding g after + one_holding (stage g r.doing) ≡ holding g here + one_holding (stage g x.running.doing) =
+      weight-after one_holding refl g s (words_after here.words op) here p i r x small is.there made in
       record {
-        turns = turns_after g (count_inside g) here after p i r x.running is.there (slots-after s (words_after here.words op) here p i r x is.there made)
-            turns.turns ok.c_step ok.t_step (omega (arith, count, ok.balance, turns.turns.starts)) ok.order ok.new_ok ok.new_held;
+        turns = turns_after g (count_inside g) (holding g) here after p i r x.running is.there (slots-after s (words_after here.words op) here p i r x is.there made)
+            turns.turns ok.c_step ok.t_step (omega (arith, count, ok.balance, turns.turns.starts)) (omega (arith, held, ok.drawn, turns.turns.drawn)) ok.order ok.new_ok ok.new_held;
         started = omega (arith, ok.s_most, turns.started);
         tickets = omega (arith, ok.t_most, turns.tickets);
       }

@@ -6,14 +6,11 @@ use Rattle.turns.specs.Stage.{Stage, Outside, Begun, Waits, Has, stage}
 use Rattle.class_model.specs.Process.{Process}
 use Rattle.process.specs.Running.{Running}
 use Rattle.machine.specs.Machine.{ClassPart, slot_at}
+use Rattle.effect_laws.specs.Turns.{stage_of, Held}
 
 -- the running process of a slot of a class
 abbrev pub at_slot : ClassPart → ℕ → ℕ → Option Running
 at_slot part p i = slot_at (part.vp p) i
-
-abbrev pub slot_stage : Guard → Option Running → Stage
-slot_stage g None = Outside
-slot_stage g (Some r) = stage g r.doing
 
 -- a ticket that is held, where so many turns are finished and so many tickets were given: one that waits is at least the
 -- first number, one past the third part is that number
@@ -22,18 +19,15 @@ TicketOk c t (Waits u) = (c ≤ u) × (u < t)
 TicketOk c t (Has u) = (u ≡ c) × (u < t)
 TicketOk c t _ = Unit {0}
 
-abbrev pub Held : Stage → ℕ → Type 0
-Held (Waits u) t = u ≡ t
-Held (Has u) t = u ≡ t
-Held _ t = ⊥
-
 abbrev pub SlotHeld : Guard → Option Running → ℕ → Type 0
-SlotHeld g o t = Held (slot_stage g o) t
+SlotHeld g o t = Held (stage_of g o) t
 
-pub record Turns (g : Guard) (count : ClassPart → ℕ) (part : ClassPart) : Type 0 where
-  pub starts : part.words.started g ≡ part.words.finished g + count part
+-- so many processes are inside a turn, and so many hold a ticket
+pub record Turns (g : Guard) (inside holding : ClassPart → ℕ) (part : ClassPart) : Type 0 where
+  pub starts : part.words.started g ≡ part.words.finished g + inside part
+  pub drawn : part.words.tickets g ≡ part.words.finished g + holding part
   pub order : part.words.finished g ≤ part.words.tickets g
-  pub slots : (p i : ℕ) → TicketOk (part.words.finished g) (part.words.tickets g) (slot_stage g (at_slot part p i))
+  pub slots : (p i : ℕ) → TicketOk (part.words.finished g) (part.words.tickets g) (stage_of g (at_slot part p i))
   pub distinct : (p i q j t : ℕ) → SlotHeld g (at_slot part p i) t → SlotHeld g (at_slot part q j) t → (p ≡ q) × (i ≡ j)
 
 -- what a slot is after a step of slot i of processor p: the process of the step, a new process, or what it was
@@ -50,13 +44,14 @@ given c n Outside t ok h = absurd h
 given c n Begun t ok h = absurd h
 
 -- the step keeps the turns: C stays or passes the ticket that the process held, and a new ticket is none that was given
-module _ (g : Guard) (count : ClassPart → ℕ) (here after : ClassPart) (p i : ℕ) (r new : Running)
+module _ (g : Guard) (inside holding : ClassPart → ℕ) (here after : ClassPart) (p i : ℕ) (r new : Running)
     (was : at_slot here p i ≡ Some r)
     (slots_after : (q j : ℕ) → SlotIs (at_slot here) p i new q j (at_slot after q j))
-    (turns : Turns g count here)
+    (turns : Turns g inside holding here)
     (c_step : (after.words.finished g ≡ here.words.finished g) ⊎ ((after.words.finished g ≡ here.words.finished g + 1) × Held (stage g r.doing) (here.words.finished g)))
     (t_step : here.words.tickets g ≤ after.words.tickets g)
-    (starts : after.words.started g ≡ after.words.finished g + count after)
+    (starts : after.words.started g ≡ after.words.finished g + inside after)
+    (drawn : after.words.tickets g ≡ after.words.finished g + holding after)
     (order : after.words.finished g ≤ after.words.tickets g)
     (new_ok : TicketOk (after.words.finished g) (after.words.tickets g) (stage g new.doing))
     (new_held : (t : ℕ) → Held (stage g new.doing) t → Held (stage g r.doing) t ⊎ (here.words.tickets g ≤ t)) where
@@ -93,10 +88,10 @@ module _ (g : Guard) (count : ClassPart → ℕ) (here after : ClassPart) (p i :
       by_stage Outside ok held = tt
       by_stage Begun ok held = tt
 
-  slot_ok : (q j : ℕ) (o : Option Running) → SlotIs (at_slot here) p i new q j o → TicketOk c' (after.words.tickets g) (slot_stage g o)
+  slot_ok : (q j : ℕ) (o : Option Running) → SlotIs (at_slot here) p i new q j o → TicketOk c' (after.words.tickets g) (stage_of g o)
   slot_ok q j _ (mine a b) = new_ok
   slot_ok q j _ (born none child) = tt
-  slot_ok q j _ (kept differs) = other_ok q j differs (slot_stage g (at_slot here q j)) (turns.slots q j) (λ t h. h)
+  slot_ok q j _ (kept differs) = other_ok q j differs (stage_of g (at_slot here q j)) (turns.slots q j) (λ t h. h)
 
   -- where the holder of a ticket after the step stood before it, or that the ticket is new
   from_before : (q j t : ℕ) (o : Option Running) → SlotIs (at_slot here) p i new q j o → SlotHeld g o t →
@@ -116,13 +111,14 @@ module _ (g : Guard) (count : ClassPart → ℕ) (here after : ClassPart) (p i :
       both : SlotHeld g (at_slot here q j) t ⊎ ((here.words.tickets g ≤ t) × (q ≡ p) × (j ≡ i)) →
           SlotHeld g (at_slot here q' j') t ⊎ ((here.words.tickets g ≤ t) × (q' ≡ p) × (j' ≡ i)) → (q ≡ q') × (j ≡ j')
       both (inl a) (inl b) = turns.distinct q j q' j' t a b
-      both (inl a) (inr b) = let n : t < here.words.tickets g = given c (here.words.tickets g) (slot_stage g (at_slot here q j)) t (turns.slots q j) a in absurd (omega (arith, n, b.0))
-      both (inr a) (inl b) = let n : t < here.words.tickets g = given c (here.words.tickets g) (slot_stage g (at_slot here q' j')) t (turns.slots q' j') b in absurd (omega (arith, n, a.0))
+      both (inl a) (inr b) = let n : t < here.words.tickets g = given c (here.words.tickets g) (stage_of g (at_slot here q j)) t (turns.slots q j) a in absurd (omega (arith, n, b.0))
+      both (inr a) (inl b) = let n : t < here.words.tickets g = given c (here.words.tickets g) (stage_of g (at_slot here q' j')) t (turns.slots q' j') b in absurd (omega (arith, n, a.0))
       both (inr a) (inr b) = (a.1 ∙ sym b.1, a.2 ∙ sym b.2)
 
-  pub turns_after : Turns g count after
+  pub turns_after : Turns g inside holding after
   turns_after = record {
     starts = starts;
+    drawn = drawn;
     order = order;
     slots = λ q j. slot_ok q j (at_slot after q j) (slots_after q j);
     distinct = distinct_after;

@@ -2,6 +2,7 @@
 use Rattle.std.specs.Prelude.{ℕ, ◌≡◌, ◌≤◌, true, List, Some, length}
 use Rattle.std.specs.List.{flat_map}
 use Rattle.lists.specs.Lists.{below, put}
+use Rattle.words_layout.specs.Sizes.{max_events}
 use Rattle.words_layout.specs.Words.{GuardedWords}
 use Rattle.words_layout.specs.declared.op.Event.{Event}
 use Rattle.policy.specs.Outcome.{Outcome}
@@ -37,13 +38,13 @@ BodiesAreWhole =
 -- After any list of at most 4,194,304 events of a valid configuration, of one virtual processor or of many, the machine of
 -- words stands for the machine of whole instructions after the order of effect.
 abbrev pub RunsStand : Type 0
-RunsStand = (k : Config) (events : List Event) → IsConfig k → length events ≤ 4194304 → StandsFor (machine k events) (run k (effects k events))
+RunsStand = (k : Config) (events : List Event) → IsConfig k → length events ≤ max_events → StandsFor (machine k events) (run k (effects k events))
 
 -- So each class is shown what the machine of whole instructions shows it, given only what is at or below the class.
 abbrev pub SectionsAreLow : Type 0
-SectionsAreLow = (k : Config) (events : List Event) → IsConfig k → length events ≤ 4194304 → (c : ℕ) → section c (machine k events) ≡ low_section k events c
+SectionsAreLow = (k : Config) (events : List Event) → IsConfig k → length events ≤ max_events → (c : ℕ) → section c (machine k events) ≡ low_section k events c
 
 -- likewise the sections of all classes, in their order
 abbrev pub ReportsAreLow : Type 0
-ReportsAreLow = (k : Config) (events : List Event) → IsConfig k → length events ≤ 4194304 →
+ReportsAreLow = (k : Config) (events : List Event) → IsConfig k → length events ≤ max_events →
     flat_map (λ c. section c (machine k events)) (below (length k.table)) ≡ flat_map (low_section k events) (below (length k.table))

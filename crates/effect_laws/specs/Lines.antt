@@ -2,6 +2,7 @@
 use Rattle.std.specs.Prelude.{ℕ, ◌≤◌, ◌≡◌, List, ◌==◌, Option, length, slice_get}
 use Rattle.std.specs.List.{find}
 use Rattle.std.specs.Option.{option_map}
+use Rattle.words_layout.specs.Sizes.{max_events}
 use Rattle.words_layout.specs.declared.op.Event.{Event}
 use Rattle.class_model.specs.Config.{Config}
 use Rattle.class_model.specs.Run.{run}
@@ -25,5 +26,5 @@ pub record HasLines (console : ℕ) (m : ClassPart) (lines : List ℕ) : Type 0 
 -- instructions after the order of effect.
 abbrev pub LinesStand : Type 0
 LinesStand =
-    (k : Config) (events : List Event) (d : ℕ) → IsConfig k → length events ≤ 4194304 →
+    (k : Config) (events : List Event) (d : ℕ) → IsConfig k → length events ≤ max_events →
     HasLines k.console ((machine k events).part d) ((run k (effects k events)).part d).lines

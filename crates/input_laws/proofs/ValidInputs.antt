@@ -8,7 +8,7 @@ use Rattle.command_input.specs.declared.status.Status.TheVariants.{Done, Refused
 use Rattle.command_input.specs.declared.status.Refusal.TheVariants.{Config, Class, Volume, Load, TooLong, Release, Store}
 use Rattle.command_input.specs.declared.status.PortFault.TheVariants.{Read, Write, Disk}
 use Rattle.command_input.specs.Answer.{ConfigCause, InputCause}
-use Rattle.command_input.specs.Input.{Ports, IfTold, IsTooLong, IsTurnOf, IsAccepted, AreNamedBelow, ReadsBelow, IsAmong, limit}
+use Rattle.command_input.specs.Input.{Ports, IfTold, IsTooLong, IsTurnOf, IsAccepted, AreNamedBelow, ReadsBelow, InputRead, IsReadWhole, IsVolumeLeft, IsAmong, limit}
 use Rattle.config_text.specs.declared.config.Config.{Config as ConfigText}
 use Rattle.config_text.specs.Text.{Spells, IsFault}
 use Rattle.config_text.proofs.ConfigLaws.{one_config, never_both}
@@ -20,7 +20,7 @@ use Rattle.loader.specs.Records.{Volumes, Ascend, IsLoadFault, named_by, numbers
 use Rattle.loader.proofs.NamedVolumes.{contains_behind, contains_cases}
 use Rattle.volume_image.specs.Volumes.{Spells as SpellsVolume, IsFault as IsVolumeFault}
 use Rattle.volume_image.proofs.VolumeLaws.{one_volume, never_both as never_both_of_volume}
-use Rattle.input_laws.specs.Laws.{ValidInputIsRead, ConfigIsRead, ReadsTheInput, HasOneInput, CalmNeverRises}
+use Rattle.input_laws.specs.Laws.{ValidInputIsRead, ConfigIsRead, ReadsTheInput, HasOneInput, WhatIsReadIsValid, CalmNeverRises}
 use Rattle.input_laws.specs.Valid.{NoneRose, HasLeft, HasConfig, HasVolume, IsValidInput}
 
 -- ---- the bytes of a port
@@ -233,3 +233,29 @@ config_is_read before after k status has none fails = config_memory before after
 
 pub calm_never_rises : CalmNeverRises
 calm_never_rises old new = record { pulls = λ p h. cc; pushes = λ p h. cc }
+
+-- ---- what was read is valid
+
+-- bytes that were read whole are within the limit
+has_left : (p : ℕ) (before after : Ports) (P : List ℕ → Type 0) (bytes : List ℕ) → (before p).left ≡ Some bytes → IsReadWhole p before after → IfTold (before p).left P → HasLeft p before P
+has_left p before after P bytes is whole h = record {
+  bytes = bytes;
+  told = is;
+  within = (told (before p).left bytes (λ bytes. (length bytes ≤ limit p) × ((after p).left ≡ Some [])) is whole).0;
+  holds = told (before p).left bytes P is h;
+}
+
+volumes_left : (t : List ClassEntry) (before after : Ports) (bytes : ℕ → List ℕ) → ((p : ℕ) → (before p).left ≡ Some (bytes p)) → (vs : Volumes) →
+    AllByRecursion (IsAccepted t before after) vs → AllByRecursion (λ (v : ℕ × List SegRecord). HasVolume t v.0 before v.1) vs
+volumes_left t before after bytes is [] all = tt
+volumes_left t before after bytes is (v ∷ vs) all =
+    (has_left v.0 before after (λ bytes. SpellsVolume t bytes v.1) (bytes v.0) (is v.0) all.0.whole all.0.left, volumes_left t before after bytes is vs all.1)
+
+pub what_is_read_is_valid : WhatIsReadIsValid
+what_is_read_is_valid wanted before after k vs bytes is among input = record {
+  config = has_left 0 before after (λ bytes. Spells bytes k) (bytes 0) (is 0) input.reads.whole input.reads.config;
+  among = among;
+  volumes = volumes_left k.table before after bytes is vs input.reads.volumes;
+  numbers = input.reads.numbers;
+  loads = input.loads;
+}

@@ -1,6 +1,7 @@
 //! What is read of a cell off the words.
 
 ghost use Rattle.std.specs.Prelude.{◌≡◌, ◌<◌, ◌≤◌, ◌+◌, ◌*◌, true, length, option_map, IfSome};
+ghost use Rattle.words_layout.specs.Sizes.{class_words};
 ghost use Rattle.words_layout.specs.Words.{Word, address, HomeOf};
 ghost use Rattle.words_layout.specs.Limits.{IsIdentity, word_in_limits};
 ghost use Rattle.words_layout.specs.Coding.{home_of};
@@ -21,7 +22,7 @@ use words_layout::{
 fn class_law(machine: &Machine<PlainWords>, class: u8)
     requires { class < classes machine.now.shared }
     ensures few { class < 16 }
-    ensures there { 34869 * class + 34869 ≤ length machine.now.words }
+    ensures there { class_words * class + class_words ≤ length machine.now.words }
 {
     machine.plain_law();
     machine.shared().table().table_law();

@@ -18,7 +18,8 @@ use Rattle.machine.specs.Machine.{Machine, ClassPart, chosen, part_step, words_o
 use Rattle.machine.specs.Opening.{machine}
 use Rattle.machine.specs.Stands.{NotInTurn}
 use Rattle.effect_laws.proofs.Growing.{by_put}
-use Rattle.effect_laws.proofs.Turns.{at_slot, Held}
+use Rattle.effect_laws.specs.Turns.{Held}
+use Rattle.effect_laws.proofs.Turns.{at_slot}
 use Rattle.effect_laws.proofs.Slots.{IsChosen, chosen-is, part_taken, part_step-taken, heft, weight, count_inside}
 use Rattle.effect_laws.proofs.TurnStep.{TurnsUpTo, After, step_ok}
 use Rattle.effect_laws.proofs.Committed.{no-turn}

@@ -1,5 +1,6 @@
 -- On words in memory a machine runs as the step machine that it stands for.
 use Rattle.std.specs.Prelude.{ℕ, ◌*◌, ◌<◌, ◌≡◌, List, length, All, Option}
+use Rattle.words_layout.specs.Sizes.{class_words}
 use Rattle.words_layout.specs.Ops.{Performed}
 use Rattle.words_layout.specs.declared.op.Op.{Op}
 use Rattle.words_layout.specs.declared.op.Event.{Event}
@@ -15,7 +16,7 @@ OnWords before op answer after = Performed before op answer after
 
 -- the words are those of the table's classes, and each bank has one virtual processor for each class, in class order
 pub record IsLaid (m : State (List ℕ)) : Type 0 where
-  pub long : length m.words ≡ 34869 * classes m.shared
+  pub long : length m.words ≡ class_words * classes m.shared
   pub width : (p : ℕ) → p < length m.banks → length (bank_at m.banks p) ≡ classes m.shared
   pub order : (p c : ℕ) → p < length m.banks → c < classes m.shared → (vp_at m.banks p c).class ≡ c
 

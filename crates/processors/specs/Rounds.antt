@@ -8,12 +8,13 @@ use Rattle.processors.specs.declared.team.Team.{Team}
 use Rattle.processors.specs.Lists.{plan_of}
 use Rattle.processors.specs.Turns.{ProcessorState}
 use Rattle.processors.specs.Teams.{IfThere, Follows}
+use Rattle.words_layout.specs.Sizes.{class_words}
 
 -- A processor with the cycle and quantum of a plan, after so many rounds: it fits what no step changes, the words have the
 -- layout of its classes, and it has taken a quantum of at most 256 steps in each round.
 pub record HasTaken (s : Shared) (words : Opened) (plan : Plan) (rounds : ℕ) (p : ProcessorState) : Type 0 where
   pub bank : IsBank s p.bank
-  pub layout : length words.words / 34869 ≡ classes s
+  pub layout : length words.words / class_words ≡ classes s
   pub plan_is : plan_of p ≡ plan
   pub quantum : p.quantum ≤ 256
   pub steps : p.taken ≡ rounds * p.quantum

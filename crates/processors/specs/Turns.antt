@@ -1,5 +1,6 @@
 -- The steps that a processor takes, one after another.
 use Rattle.std.specs.Prelude.{◌≡◌, ℕ, ◌+◌, ◌/◌, ◌^◌, ◌<◌, List, length}
+use Rattle.words_layout.specs.Sizes.{class_words}
 use Rattle.words_layout.specs.declared.op.Op.{Op}
 use Rattle.class_model.specs.Config.{Shared, classes}
 use Rattle.machine.specs.Processing.{Processing}
@@ -26,5 +27,5 @@ pub record Takes {W : Type 0} (related : W → Op → ℕ → W → Type 0) (s :
 -- a processor can take a quantum on these words
 pub record IsReady (s : Shared) (p : ProcessorState) (words : Opened) : Type 0 where
   pub bank : IsBank s p.bank
-  pub layout : length words.words / 34869 ≡ classes s
+  pub layout : length words.words / class_words ≡ classes s
   pub room : p.taken + p.quantum < 2 ^ 64

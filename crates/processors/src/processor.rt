@@ -7,6 +7,7 @@ ghost use Rattle.shared_words.specs.Ports.{PortGains};
 ghost use Rattle.round_laws.specs.Live.{bank_live};
 ghost use Rattle.processors.specs.Turns.{Takes};
 ghost use Rattle.processors.specs.Lists.{CycleFits};
+ghost use Rattle.words_layout.specs.Sizes.{class_words};
 
 use crate::pace::Pace;
 use arrayvec::ArrayVec;
@@ -91,11 +92,11 @@ impl Processor {
     /// where the processor stood. It takes no lock and waits for nobody but the pace.
     pub fn quantum<P: Pace>(&mut self, port: &mut SeatPort, shared: &Shared, pace: &P)
         requires bank { IsBank shared.now self.old.bank }
-        requires layout { length port.old.words.words / 34869 ≡ classes shared.now }
+        requires layout { length port.old.words.words / class_words ≡ classes shared.now }
         requires room { self.old.taken + self.old.quantum < 2 ^ 64 }
         ensures steps { Takes PortGains shared.now self.old.quantum self.old port.old self.new port.new }
         ensures bank { IsBank shared.now self.new.bank }
-        ensures layout { length port.new.words.words / 34869 ≡ classes shared.now }
+        ensures layout { length port.new.words.words / class_words ≡ classes shared.now }
     {
         let count = self.quantum;
         self.take_steps(count, port, shared, pace);

@@ -5,6 +5,7 @@ ghost use Rattle.machine.specs.Steps.{IsMachine};
 ghost use Rattle.round_laws.specs.Rounds.{Ran};
 ghost use Rattle.processors.specs.Lists.{plan_of, banks_of, numbers_of, machine_with};
 ghost use Rattle.processors.specs.Rounds.{TeamHasTaken};
+ghost use Rattle.words_layout.specs.Sizes.{class_words};
 
 use crate::pace::Pace;
 use crate::parts::{Parts, Rounds};
@@ -31,7 +32,7 @@ pub fn rounds<R: Threads + Sync, P: Pace + Sync>(
     ensures runs { Ran (plan_of parts.processors.first) (machine_with parts.words.words parts.processors parts.shared) (machine_with into.new result.processors result.shared) parts.rounds result.taken }
     ensures processors { TeamHasTaken parts.shared parts.words (plan_of parts.processors.first) result.taken result.processors }
     ensures numbers { numbers_of result.processors ≡ numbers_of parts.processors }
-    ensures machine { IsMachine (length into.new / 34869) (banks_of result.processors) result.shared }
+    ensures machine { IsMachine (length into.new / class_words) (banks_of result.processors) result.shared }
     ensures shared { result.shared ≡ parts.shared }
 {
     let Parts {

@@ -10,11 +10,9 @@ ghost use Rattle.release_guard.specs.declared.order.Stage.TheVariants as stage;
 
 use crate::fault::{Code, Refusal};
 use crate::order::{MAX_RELEASES, Release, Stage};
-use crate::parts::{
-    after_class, byte, class_count, header_fault, identity, is_misspelt, new_entry, one_misspelt,
-    value,
-};
+use crate::parts::{after_class, class_count, header_fault, identity, new_entry, one_misspelt};
 use arrayvec::ArrayString;
+use config_text::{byte, is_misspelt, value};
 use labels::Label;
 use std::alloc::Global;
 use text_lines::{is_allowed_line, is_text, word_list};

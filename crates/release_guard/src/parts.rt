@@ -9,39 +9,15 @@ ghost use Rattle.text_lines.specs.Name.{is_name as spec_is_name};
 ghost use Rattle.text_lines.specs.Number.{misspelt, value_of};
 ghost use Rattle.labels.specs.Reading.{label_of_text};
 ghost use Rattle.labels.specs.Table.{entry_of};
-ghost use Rattle.config_text.specs.Rules.{byte as spec_byte, same_label as spec_same_label, stood_before as spec_stood_before, is_low as spec_is_low};
 ghost use Rattle.release_guard.specs.Rules as spec;
 
 use crate::fault::Code;
 use crate::order::Stage;
 use arrayvec::ArrayString;
+use config_text::{byte, is_low, is_misspelt, label, name_text, stood_before, value};
 use labels::Label;
-use text_lines::{is_name, is_text, number};
-use words_layout::SegId;
-
-/// The number of serials that a class gives to segments.
-const SERIALS: u64 = 64;
-
-/// The number that the word spells, 0 where it is misspelt.
-pub fn value(word: &[u8]) -> u64
-    ensures { result ≡ value_of word.now }
-{
-    number(word).unwrap_or(0)
-}
-
-/// A class or a serial of this number. A line whose number is past what there is has a code.
-pub fn byte(word: &[u8]) -> u8
-    ensures { result ≡ spec_byte (value_of word.now) }
-{
-    value(word).min(255) as u8
-}
-
-/// Whether the word spells no number below 2 ^ 64.
-pub fn is_misspelt(word: &[u8]) -> bool
-    ensures { result ≡ misspelt word.now }
-{
-    number(word).is_err()
-}
+use text_lines::{is_name, is_text};
+use words_layout::{SERIAL_LIMIT, SegId};
 
 /// What is wrong with the first line.
 pub fn header_fault(words: &[&[u8]]) -> Result<(), Code>
@@ -80,60 +56,6 @@ pub fn class_count(words: &[&[u8]]) -> Result<u8, Code>
     Ok(number as u8)
 }
 
-/// The label that the word spells.
-fn label(word: &[u8]) -> Option<Label>
-    ensures { result ≡ label_of_text word.now }
-{
-    Label::parse_bytes(word).ok()
-}
-
-/// The name as a text of its own.
-#[tactic(auto, using(config_text::proofs::NameBytes::names))]
-fn name_text(word: &[u8]) -> ArrayString<16>
-    requires { spec_is_name word.now ≡ true }
-    ensures { result.bytes ≡ word.now }
-{
-    let mut text = ArrayString::new();
-    for byte in word {
-        text.push(char::from(*byte));
-    }
-    text
-}
-
-/// Whether the labels are equal.
-fn same_label(a: &Label, b: &Label) -> bool
-    ensures { result ≡ spec_same_label a.now b.now }
-{
-    a.secrecy_level == b.secrecy_level
-        && a.secrecy_cats == b.secrecy_cats
-        && a.integrity_level == b.integrity_level
-        && a.integrity_cats == b.integrity_cats
-}
-
-/// Whether the class has the name or the label.
-fn is_same(entry: &(ArrayString<16>, Label), name: &[u8], label: &Label) -> bool
-    ensures { result ≡ (bytes_eq entry.now.0.bytes name.now || spec_same_label entry.now.1 label.now) }
-{
-    is_text(entry.0.as_str().as_bytes(), name) || same_label(&entry.1, label)
-}
-
-/// Whether an earlier class has the name or the label.
-fn stood_before(entries: &[(ArrayString<16>, Label)], name: &[u8], label: &Label) -> bool
-    ensures { result ≡ spec_stood_before (map entry_of entries.now) name.now label.now }
-{
-    entries.iter().any(|entry| is_same(entry, name, label))
-}
-
-/// Whether the label doesn't dominate that of class 0.
-fn is_low(entries: &[(ArrayString<16>, Label)], label: &Label) -> bool
-    ensures { result ≡ spec_is_low (map entry_of entries.now) label.now }
-{
-    match entries {
-        [] => false,
-        [first, ..] => !label.dominates(&first.1),
-    }
-}
-
 /// The class of this name and label, behind these classes.
 #[tactic(auto, unfolding(crate::specs::Rules::entry_tests))]
 pub fn new_entry(
@@ -167,7 +89,7 @@ pub fn identity(class: &[u8], serial: &[u8], classes: u64) -> Option<SegId>
     if value(class) >= classes {
         return None;
     }
-    if value(serial) >= SERIALS {
+    if value(serial) >= u64::from(SERIAL_LIMIT) {
         return None;
     }
     Some(SegId {

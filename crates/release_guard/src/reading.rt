@@ -4,6 +4,7 @@ ghost use Rattle.std.specs.Prelude.{◌≡◌, ◌+◌, ◌^◌, ◌<◌, ◌≤
 ghost use Rattle.text_lines.specs.Lines.{lines, views};
 ghost use Rattle.text_lines.specs.Faults.{lines_answer};
 ghost use Rattle.labels.specs.Table.{IsTable, entry_of};
+ghost use Rattle.script_asm.specs.Spelling.{max_text};
 ghost use Rattle.release_guard.specs.declared.fault.OrderError.TheVariants.{Fault};
 ghost use Rattle.release_guard.specs.declared.order.Order.{Order as OrderValue};
 ghost use Rattle.release_guard.specs.Codes.{code_number};
@@ -106,7 +107,7 @@ fn line_list(alloc: Global, text: &[u8]) -> Result<Vec<&[u8]>, AllocError>
 /// The release order that the text spells, or its first faulty line with that line's least code. The text has at most
 /// 1,048,576 bytes.
 pub fn read_order(alloc: Global, text: &[u8]) -> Result<Order, OrderError>
-    requires { length text.now ≤ 1048576 }
+    requires { length text.now ≤ max_text }
     // What is read is spelled so, and a fault is the first one, with its least code.
     ensures right { AnswersText text.now result }
     // What is spelled so is read, and what is faulty is refused with that fault, unless memory runs out.

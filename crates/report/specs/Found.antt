@@ -1,5 +1,6 @@
 -- What is read of a segment off all words by address.
 use Rattle.std.specs.Prelude.{ℕ, ◌+◌, ◌*◌, ◌%◌, ◌^◌, ◌<◌, ◌≤◌, ◌≡◌, Bool, true, not, ◌||◌, List, length, nat_lt, map, sum, Option}
+use Rattle.words_layout.specs.Sizes.{class_words}
 use Rattle.words_layout.specs.Words.{Word, address, HomeOf, WritesOf, EntryOf}
 use Rattle.words_layout.specs.Limits.{word_in_limits}
 use Rattle.words_layout.specs.Coding.{home_of, entry_of}
@@ -15,7 +16,7 @@ use Rattle.report.specs.declared.reading.Found.{Found}
 -- class c is one of at most 16, and all words by address have its own
 pub record HasClass (words : List ℕ) (class : ℕ) : Type 0 where
   pub few : class < 16
-  pub there : 34869 * class + 34869 ≤ length words
+  pub there : class_words * class + class_words ≤ length words
 
 -- the address is that of a word of the class
 pub record IsNamed (class addr : ℕ) : Type 0 where

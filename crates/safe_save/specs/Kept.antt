@@ -9,6 +9,10 @@ use Rattle.safe_save.specs.declared.keeping.SaveError.{SaveError}
 use Rattle.safe_save.specs.declared.keeping.SaveError.TheVariants.{Length, Disk}
 use Rattle.safe_save.specs.Disk.{Only}
 
+-- the greatest length of an image
+abbrev pub max_length : ℕ
+max_length = 4194304
+
 -- Half 0 begins at byte 16, half 1 behind it: a length of eight bytes, and room for 4,194,304 bytes.
 abbrev pub start_of : ℕ → ℕ
 start_of half = 16 + 4194312 * half
@@ -34,7 +38,7 @@ kept_bytes (byte ∷ bytes) = Image (byte ∷ bytes)
 
 -- what a half keeps: as many bytes behind its length as the length says
 abbrev pub kept_in : List ℕ → ℕ → Kept
-kept_in disk half = if nat_le (length_of disk half) 4194304 then kept_bytes (part_of disk (start_of half + 8) (length_of disk half)) else Broken
+kept_in disk half = if nat_le (length_of disk half) max_length then kept_bytes (part_of disk (start_of half + 8) (length_of disk half)) else Broken
 
 -- what the half in use keeps
 abbrev pub kept : List ℕ → Kept
@@ -48,7 +52,7 @@ pub record IsPlace (disk : List ℕ) (place : Place) : Type 0 where
 -- The disk is open at this place: where it is honest, a crash leaves nothing but what a read gives, and the place is the half in use there.
 pub record IsOpen {D : Type 0} (honest : D → Type 0) (seen : D → List ℕ) (images : D → List ℕ → Type 0) (disk : D) (place : Place) : Type 0 where
   pub half : place.half < 2
-  pub length : place.length ≤ 4194304
+  pub length : place.length ≤ max_length
   pub only : honest disk → Only (seen disk) (images disk)
   pub in_use : honest disk → IsPlace (seen disk) place
 
@@ -64,8 +68,8 @@ IsOldOrNew old bytes disk = (kept disk ≡ old) ⊎ (kept disk ≡ Image (drop 8
 
 -- what `open` answers of a disk where no call of it failed: the half in use with its length, or the length where it is too great
 abbrev pub Opens : List ℕ → Result Place SaveError → Type 0
-Opens disk (Ok place) = IsPlace disk place × (place.length ≤ 4194304)
-Opens disk (Err (Length length)) = (length ≡ length_of disk (half_in_use disk)) × (4194304 < length)
+Opens disk (Ok place) = IsPlace disk place × (place.length ≤ max_length)
+Opens disk (Err (Length length)) = (length ≡ length_of disk (half_in_use disk)) × (max_length < length)
 Opens disk (Err Disk) = Unit {0}
 
 -- an answer that isn't that the disk failed

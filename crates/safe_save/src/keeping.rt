@@ -9,7 +9,7 @@ ghost use Rattle.std.specs.Prelude.{◌≡◌, ◌↔◌, ◌⊎◌, ℕ, ◌+�
 ghost use Rattle.host_ports.specs.Ports.{Rose, HasCause};
 ghost use Rattle.safe_save.specs.declared.keeping.SaveError.TheVariants.{Disk};
 ghost use Rattle.safe_save.specs.Disk.{written, DiffersIn, Only, LeavesOnly};
-ghost use Rattle.safe_save.specs.Kept.{start_of, kept, kept_bytes, IsOpen, IsStored, IsOldOrNew, Opens, NotFailed, Kept, Image};
+ghost use Rattle.safe_save.specs.Kept.{start_of, kept, kept_bytes, IsOpen, IsStored, IsOldOrNew, Opens, NotFailed, Kept, Image, max_length};
 
 use crate::disk::Disk;
 use host_ports::Failed;
@@ -80,7 +80,7 @@ pub fn open<D: Disk>(disk: &mut D) -> Result<Place, SaveError>
     ensures honest { D.honest disk.old ↔ D.honest disk.new }
     ensures answer { D.honest disk.old → Opens (D.seen disk.old) result }
     ensures open { IfOk result (λ place. IsOpen D.honest D.seen D.may_leave disk.new place) }
-    ensures too_great { (length : ℕ) → IsErrOf result (SaveError.Length length) → 4194304 < length }
+    ensures too_great { (length : ℕ) → IsErrOf result (SaveError.Length length) → max_length < length }
     ensures seen { D.honest disk.old → D.seen disk.new ≡ D.seen disk.old }
     ensures only { D.honest disk.old → NotFailed result (Only (D.seen disk.new) (D.may_leave disk.new)) }
     ensures any_moment { D.honest disk.old → LeavesOnly D.moment D.left_since disk.old disk.new (D.may_leave disk.old) }

@@ -9,7 +9,8 @@ use Rattle.words_layout.specs.declared.op.Event.{Event}
 use Rattle.config_text.specs.declared.config.Config.{Config}
 use Rattle.config_text.specs.declared.config.Item.{Item}
 use Rattle.config_text.specs.declared.config.Item.TheVariants.{Events, Mix, Sweep}
-use Rattle.config_text.specs.Valid.{IsValid, max_events, events_of as item_total}
+use Rattle.words_layout.specs.Sizes.{max_events}
+use Rattle.config_text.specs.Valid.{IsValid, events_of as item_total}
 use Rattle.schedule.specs.Schedule.{Shape, event, drawn, mixed, swept_round, swept, shape_of, scheduled, events_of}
 
 numbers_counted : (start n : ℕ) → length (numbers_from start n) ≡ n

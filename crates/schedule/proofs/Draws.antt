@@ -1,5 +1,5 @@
 -- The loop that draws events.
-use Rattle.std.proofs.Common.{◌≡◌, ℕ, zero, suc, ◌+◌, ◌-◌, ◌*◌, ◌/◌, ◌%◌, ◌^◌, ◌<◌, List, [], ◌∷◌, ◌++◌, refl, ap, sym, ◌∙◌, arith, append_assoc, replicate}
+use Rattle.std.proofs.Common.{◌≡◌, ℕ, suc, ◌+◌, ◌-◌, ◌*◌, ◌/◌, ◌%◌, ◌^◌, ◌<◌, List, [], ◌∷◌, ◌++◌, ◌∙◌, arith, append_assoc, replicate}
 use Rattle.std.proofs.Math.Nat.{mod-add-mod}
 use Rattle.words_layout.specs.declared.op.Event.{Event}
 use Rattle.schedule.specs.Schedule.{event, drawn, mixed}

@@ -7,7 +7,8 @@ use Rattle.std.proofs.lemmas.List.Sums.{sum_by-cons, sum_by-drop_more}
 use Rattle.words_layout.specs.declared.op.Event.{Event}
 use Rattle.config_text.specs.declared.config.Config.{Config}
 use Rattle.config_text.specs.declared.config.Item.{Item}
-use Rattle.config_text.specs.Valid.{IsValid, max_events, events_of as item_total}
+use Rattle.words_layout.specs.Sizes.{max_events}
+use Rattle.config_text.specs.Valid.{IsValid, events_of as item_total}
 use Rattle.schedule.specs.Schedule.{shape_of, scheduled, events_of}
 use Rattle.schedule.proofs.Ranges.{some_processors}
 

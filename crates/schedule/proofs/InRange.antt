@@ -11,7 +11,8 @@ use Rattle.words_layout.specs.declared.op.Event.{Event}
 use Rattle.config_text.specs.declared.config.Config.{Config}
 use Rattle.config_text.specs.declared.config.Item.{Item}
 use Rattle.config_text.specs.declared.config.Item.TheVariants.{Events, Mix, Sweep}
-use Rattle.config_text.specs.Valid.{IsValid, within, max_events, is_class, item_ok}
+use Rattle.words_layout.specs.Sizes.{max_events}
+use Rattle.config_text.specs.Valid.{IsValid, within, is_class, item_ok}
 use Rattle.schedule.specs.Schedule.{event, drawn, mixed, swept_round, swept, shape_of, scheduled, events_of}
 use Rattle.schedule.specs.Ranges.{IsEventOf}
 use Rattle.schedule.proofs.Ranges.{some_processors, some_classes, some_cycle}

@@ -1,5 +1,6 @@
 pub mod Ranges
 pub mod Draws
+pub mod Remainders
 pub mod Sweeps
 pub mod InOrder
 pub mod Counts

@@ -1,6 +1,6 @@
 -- What a valid configuration's header and items are, as orders.
-use Rattle.std.proofs.Common.{◌≡◌, ℕ, ◌+◌, ◌*◌, ◌<◌, ◌≤◌, true, length, arith}
-use Rattle.std.specs.Prelude.{◌&&◌, ◌==◌, nat_le}
+use Rattle.std.proofs.Common.{◌≡◌, ℕ, ◌≤◌, true, length, arith}
+use Rattle.std.specs.Prelude.{◌&&◌, nat_le}
 use Rattle.std.specs.List.{list_all}
 use Rattle.std.proofs.lemmas.Bool.{and_parts, leb-true}
 use Rattle.config_text.specs.declared.config.Config.{Config}
@@ -29,8 +29,14 @@ header k valid =
 pub some_processors : (k : Config) → IsValid k → 1 ≤ k.processors
 some_processors k valid = (header k valid).some_processors
 
+pub few_processors : (k : Config) → IsValid k → k.processors ≤ 16
+few_processors k valid = let few = (header k valid).few_processors in omega (arith, few)
+
 pub some_classes : (k : Config) → IsValid k → 1 ≤ length k.table
 some_classes k valid = let some = valid.table.some in omega (arith, some)
+
+pub few_classes : (k : Config) → IsValid k → length k.table ≤ 16
+few_classes k valid = let few = valid.table.few in omega (arith, few)
 
 pub some_cycle : (k : Config) → IsValid k → 1 ≤ length k.cycle
 some_cycle k valid = (within_bounds 1 16 (length k.cycle) (and_parts (within 1 16 (length k.cycle)) (list_all (is_class k) k.cycle) valid.cycle).0).0

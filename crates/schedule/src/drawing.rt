@@ -1,8 +1,9 @@
 //! The events that are drawn.
 
-ghost use Rattle.std.specs.Prelude.{◌≡◌, ◌<◌, ◌++◌, OnOk};
+ghost use Rattle.std.specs.Prelude.{◌≡◌, ◌<◌, ◌≤◌, ◌++◌, OnOk};
 ghost use Rattle.schedule.specs.Schedule.{drawn, mixed};
 
+use crate::divisor::Divisor;
 use std::alloc::AllocError;
 use words_layout::Event;
 
@@ -23,16 +24,18 @@ pub fn mix(
     start: u64,
     count: u32,
 ) -> Result<(), AllocError>
-    requires processors { 0 < processors }
-    requires classes { 0 < classes }
+    requires processors { (0 < processors) × (processors ≤ 16) }
+    requires classes { (0 < classes) × (classes ≤ 16) }
     ensures { OnOk result (events.new.items ≡ events.old.items ++ mixed processors classes start count) }
 {
+    let by_processors = Divisor::new(processors);
+    let by_classes = Divisor::new(classes);
     let mut x = start;
     for _ in 0..count {
         x = next_number(x);
         events.push(Event {
-            processor: ((x >> 33) % processors as u64) as u8,
-            class: ((x >> 48) % classes as u64) as u8,
+            processor: by_processors.remainder(x >> 33),
+            class: by_classes.remainder(x >> 48),
         })?;
     }
     Ok(())

@@ -4,7 +4,8 @@ ghost use Rattle.std.specs.Prelude.{◌≡◌, ◌+◌, ◌*◌, ◌<◌, ◌≤
 ghost use Rattle.std.specs.List.{sum_by};
 ghost use Rattle.words_layout.specs.declared.op.Event.{Event};
 ghost use Rattle.config_text.specs.declared.config.Item.{Item};
-ghost use Rattle.config_text.specs.Valid.{IsValid, item_ok, max_events, events_of as item_total};
+ghost use Rattle.words_layout.specs.Sizes.{max_events};
+ghost use Rattle.config_text.specs.Valid.{IsValid, item_ok, events_of as item_total};
 ghost use Rattle.schedule.specs.Schedule.{shape_of, scheduled, events_of};
 ghost use Rattle.schedule.specs.Ranges.{IsEventOf};
 
@@ -52,7 +53,7 @@ fn repeat(events: &mut Vec<Event>, event: Event, count: u32) -> Result<(), Alloc
 }
 
 /// Appends the events of an item, where each processor has reached this place of the cycle. Gives the place behind it.
-#[tactic(auto, using(crate::proofs::Ranges::some_processors, crate::proofs::Ranges::some_classes, crate::proofs::Ranges::some_cycle))]
+#[tactic(auto, using(crate::proofs::Ranges::some_processors, crate::proofs::Ranges::few_processors, crate::proofs::Ranges::some_classes, crate::proofs::Ranges::few_classes, crate::proofs::Ranges::some_cycle))]
 fn append(
     events: &mut Vec<Event>,
     config: &Config,

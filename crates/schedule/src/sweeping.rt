@@ -1,6 +1,7 @@
 //! The events of sweeps.
 
 ghost use Rattle.std.specs.Prelude.{◌≡◌, ℕ, ◌+◌, ◌*◌, ◌<◌, ◌≤◌, ◌++◌, ◌%◌, length, map, slice_index, OnOk};
+ghost use Rattle.words_layout.specs.Sizes.{max_events};
 ghost use Rattle.lists.specs.Lists.{below};
 ghost use Rattle.schedule.specs.Schedule.{event, swept, swept_round};
 
@@ -16,7 +17,7 @@ fn one_quantum(
     place: usize,
 ) -> Result<(), AllocError>
     requires cycle { 0 < length cycle.now }
-    requires place { place ≤ 4194304 }
+    requires place { place ≤ max_events }
     ensures { OnOk result (events.new.items ≡ events.old.items
         ++ map (λ k. event processor (slice_index cycle.now ((place + k) % length cycle.now))) (below quantum)) }
 {
@@ -38,7 +39,7 @@ fn round(
     place: usize,
 ) -> Result<(), AllocError>
     requires cycle { 0 < length cycle.now }
-    requires place { place ≤ 4194304 }
+    requires place { place ≤ max_events }
     ensures { OnOk result (events.new.items ≡ events.old.items ++ swept_round processors quantum cycle.now place) }
 {
     for processor in 0..processors {
@@ -58,7 +59,7 @@ pub fn sweep(
     rounds: u32,
 ) -> Result<(), AllocError>
     requires cycle { 0 < length cycle.now }
-    requires place { place + rounds * quantum ≤ 4194304 }
+    requires place { place + rounds * quantum ≤ max_events }
     ensures { (classes : ℕ) → OnOk result (events.new.items ≡ events.old.items
         ++ swept (record { processors = processors; classes = classes; cycle = cycle.now; quantum = quantum }) place rounds) }
 {

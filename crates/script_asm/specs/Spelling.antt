@@ -12,6 +12,10 @@ use Rattle.script_asm.specs.Operand.{Word, op_text}
 use Rattle.script_asm.specs.Item.{Item, mnemonic, value, instr_items}
 use Rattle.script_asm.specs.Script.{begins_at, names_place, head_of, is_instruction, is_word, instructions, words_in}
 
+-- the most bytes of a text
+abbrev pub max_text : ℕ
+max_text = 1048576
+
 -- ---- words
 
 -- `r` and a number from 0 to 15

@@ -8,7 +8,7 @@ ghost use Rattle.script_lang.specs.Fault.{ends_well};
 ghost use Rattle.script_lang.specs.Program.{program_ok};
 ghost use Rattle.script_asm.specs.Script.{start, script_rules, words_in};
 ghost use Rattle.script_asm.specs.Answer.{AnswersScript, AllowsBytes, IsFault, IsReadAs, IsRefusedWith};
-ghost use Rattle.script_asm.specs.Spelling.{Spells};
+ghost use Rattle.script_asm.specs.Spelling.{Spells, max_text};
 ghost use Rattle.script_asm.specs.Reading.{place_of, Reads};
 
 use crate::draft::Draft;
@@ -113,7 +113,7 @@ fn line_list(alloc: Global, text: &[u8]) -> Result<Vec<&[u8]>, AllocError>
 /// The program that the text spells, or its first faulty line with that line's least code. The text has at most
 /// 1,048,576 bytes.
 pub fn assemble(alloc: Global, text: &str) -> Result<Program, AsmError>
-    requires { length text.now ≤ 1048576 }
+    requires { length text.now ≤ max_text }
     // What is read is what the text spells, and a fault is the first one, with its least code.
     ensures right { AnswersScript (lines text.now) result }
     // What the text spells is read, and what is faulty is refused with that fault, unless memory runs out.

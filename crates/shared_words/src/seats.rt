@@ -3,6 +3,7 @@
 ghost use Rattle.std.specs.Prelude.{◌≡◌, ◌<◌, ◌≤◌, ◌/◌, ◌+◌, Some, None, length};
 ghost use Rattle.shared_words.specs.Ports.{PortGains, Port, Whole, whole_of, first_view, port_at, with_port, AreOf};
 ghost use Rattle.shared_words.specs.Views.{IsWhole, CanGive, one_left, one_given};
+ghost use Rattle.words_layout.specs.Sizes.{class_words};
 
 use crate::shared::SharedWords;
 use crate::view::View;
@@ -225,7 +226,7 @@ impl<'a> Model for SeatPort<'a> {
 }
 
 impl<'a> WordPort for SeatPort<'a> {
-    ghost classes = { λ p. length p.words.words / 34869 };
+    ghost classes = { λ p. length p.words.words / class_words };
 
     ghost relation = { λ before op answer after. PortGains before op answer after };
 

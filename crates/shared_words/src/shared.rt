@@ -4,6 +4,7 @@ ghost use Rattle.std.specs.Prelude.{◌≡◌, ◌<◌, ◌/◌, IfOk, [], ◌�
 ghost use Rattle.shared_words.specs.Views.{opening, own, gains, second, with_held, alone, both, IsWhole, CanGive, later};
 ghost use Rattle.std.specs.Slots.{slots_items, slots_len, IsFull};
 ghost use Rattle.shared_words.specs.Ports.{Ordered, Whole};
+ghost use Rattle.words_layout.specs.Sizes.{class_words};
 ghost use Rattle.words_layout.specs.Ops.{IsWithin, IsPlain};
 
 use crate::plays::{Adds, Gives, Loads, Marks, OneOrder, Stores, Takes};
@@ -49,7 +50,7 @@ impl SharedWords {
     pub(crate) fn perform(&self, seat: &mut Seat<u8, View>, op: Op) -> u64
         requires table { seat.old.table_id ≡ self.now.table }
         requires holds { own seat.old.me.0 < 4 }
-        requires within { IsWithin (length self.now.words / 34869) op }
+        requires within { IsWithin (length self.now.words / class_words) op }
         ensures table { seat.new.table_id ≡ seat.old.table_id }
         ensures gains { seat.new.me ≡ (gains seat.old.me.0 op result, seat.old.me.1) }
         ensures plain { IsPlain op result }

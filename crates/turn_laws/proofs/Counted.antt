@@ -10,10 +10,11 @@ use Rattle.turns.specs.Stage.{Stage, Outside, Begun, Waits, Has, stage}
 use Rattle.process.specs.Running.{Running}
 use Rattle.machine.specs.Machine.{ClassPart, VirtualProcessor, slot_at}
 use Rattle.machine.specs.Opening.{machine}
+use Rattle.effect_laws.specs.Turns.{stage_of, one_between, one_holding, Held, between, holding}
 use Rattle.effect_laws.proofs.Slots.{heft, weight, count_inside}
 use Rattle.effect_laws.proofs.StandsAfter.{together_after}
 use Rattle.effect_laws.proofs.Turns.{TicketOk, Turns}
-use Rattle.turn_laws.specs.Turns.{stage_of, one_between, one_holding, Holds, between, holding, AreCounted, TurnsAreCounted}
+use Rattle.turn_laws.specs.Turns.{AreCounted, TurnsAreCounted}
 
 -- who is inside a turn is between or holds a ticket
 heft_is : (x : Stage) → heft x ≡ one_between x + one_holding x
@@ -41,7 +42,7 @@ module _ (g : Guard) where
       let a = slots_are (part.vp 0).slots in let b = slots_are (part.vp 1).slots in let c = slots_are (part.vp 2).slots in let d = slots_are (part.vp 3).slots in
       omega (arith, a, b, c, d)
 
-  in_range : (c n : ℕ) (x : Stage) (t : ℕ) → TicketOk c n x → Holds x t → (c ≤ t) × (t < n)
+  in_range : (c n : ℕ) (x : Stage) (t : ℕ) → TicketOk c n x → Held x t → (c ≤ t) × (t < n)
   in_range c n (Waits u) t ok h = subst (λ y. (c ≤ y) × (y < n)) h ok
   in_range c n (Has u) t ok h = let e = ok.0 in let lt = ok.1 in (omega (arith, e, h), omega (arith, lt, h))
   in_range c n Outside t ok h = absurd h
@@ -50,10 +51,10 @@ module _ (g : Guard) where
   is_next : (c n : ℕ) (x : Stage) (t : ℕ) → TicketOk c n x → x ≡ Has t → t ≡ c
   is_next c n x t ok e = (subst (TicketOk c n) e ok).0
 
-  counted : (part : ClassPart) → Turns g (count_inside g) part → AreCounted g part
+  counted : (part : ClassPart) → Turns g (count_inside g) (holding g) part → AreCounted g part
   counted part z = record {
     started = let e = z.starts in let f = inside_is part in omega (arith, e, f);
-    order = z.order;
+    drawn = z.drawn;
     range = λ p i t h. in_range (part.words.finished g) (part.words.tickets g) (stage_of g (slot_at (part.vp p) i)) t (z.slots p i) h;
     distinct = λ p i q j t h f. z.distinct p i q j t h f;
     inside = λ p i t e. is_next (part.words.finished g) (part.words.tickets g) (stage_of g (slot_at (part.vp p) i)) t (z.slots p i) e;

@@ -1,5 +1,6 @@
 -- The look and the turn by themselves, on the part and the number held, for the gates that drive them.
 use Rattle.std.specs.Prelude.{ℕ, ◌<◌, ◌≡◌, ◌⊎◌, Bool, true, false, ◌==◌, if◌then◌else◌}
+use Rattle.words_layout.specs.Sizes.{most_classes}
 use Rattle.words_layout.specs.Limits.{IsIdentity}
 use Rattle.words_layout.specs.Words.{Guard, OfClass, OfSegment, Started, Tickets, Finished, WordOp}
 use Rattle.words_layout.specs.Segments.{seg}
@@ -32,7 +33,7 @@ guard_seg (Segment c u) = u
 
 -- a guard within the limits of the layout
 abbrev pub IsGuard : Guarding → Type 0
-IsGuard g = (guard_class g < 16) × IsIdentity (guard_seg g)
+IsGuard g = (guard_class g < most_classes) × IsIdentity (guard_seg g)
 
 -- a look that has taken no step
 abbrev pub look_first : LookPart

@@ -13,6 +13,10 @@ use Rattle.volume_image.specs.Valid.{IsVolumeOf}
 use Rattle.volume_image.specs.Written.{spelling}
 use Rattle.volume_image.specs.Fields.{volume_at}
 
+-- the most bytes of a volume
+abbrev pub max_image : ℕ
+max_image = 4194304
+
 -- the number of a code
 abbrev pub code_number : Code → ℕ
 code_number code.Short = 1

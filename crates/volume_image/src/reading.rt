@@ -5,7 +5,7 @@ ghost use Rattle.class_model.specs.Config.{SegRecord as RecordValue};
 ghost use Rattle.volume_image.specs.Valid.{IsVolume};
 ghost use Rattle.volume_image.specs.Steps.{Gives};
 ghost use Rattle.volume_image.specs.Fields.{volume_at};
-ghost use Rattle.volume_image.specs.Volumes.{error_of, Answers, Spells, IsFault, IsReadAs, IsRefusedWith};
+ghost use Rattle.volume_image.specs.Volumes.{error_of, Answers, Spells, IsFault, IsReadAs, IsRefusedWith, max_image};
 
 use crate::body::records_of;
 use crate::fault::{Code, Stop, VolumeError, fault};
@@ -45,7 +45,7 @@ fn error_of(total: usize, stop: Stop) -> VolumeError
 
 /// The volume that the bytes spell for the classes of the table, or the first field at fault. Both formats are read.
 pub fn read_volume(alloc: Global, bytes: &[u8], table: &ClassTable) -> Result<Volume, VolumeError>
-    requires { length bytes.now ≤ 4194304 }
+    requires { length bytes.now ≤ max_image }
     // What is read is spelled so, and a fault is the first one, with its code.
     ensures right { Answers table.now bytes.now result }
     // A volume that is read is valid, so that it can be written.

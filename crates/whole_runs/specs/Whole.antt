@@ -4,23 +4,23 @@ use Rattle.words_layout.specs.declared.op.Event.{Event}
 use Rattle.class_model.specs.Access.{all_allowed, all_given}
 use Rattle.class_model.specs.Config.{Config}
 use Rattle.class_model.specs.Content.{AllShowRight}
-use Rattle.class_model.specs.Process.{ProcName}
+use Rattle.class_model.specs.Process.{Process, ProcName}
 use Rattle.class_model.specs.Run.{Happened, history, opening, run}
+use Rattle.class_model.specs.State.{process_at}
 use Rattle.content_laws.specs.Contents.{AllStep, Follows, IsBetween, ShowsMore, given_once}
 use Rattle.machine.specs.Machine.{Machine}
 use Rattle.machine.specs.Opening.{effects}
 use Rattle.machine.specs.Stands.{StandsFor}
-
--- a run has at most so many events
-abbrev pub most_events : ℕ
-most_events = 4194304
+use Rattle.refusal_laws.specs.Refusals.{IsAnswered}
 
 -- An effect after those before it: what a fetch, an update, an advance or an out shows besides; a read or await lies between the
--- advances before its first look and those before its last one; and a look follows the look at the component before.
+-- advances before its first look and those before its last one; a look follows the look at the component before; and it is refused
+-- exactly where a test of its instruction's row holds, by the first that does.
 pub record EffectIsRight (k : Config) (past : List Happened) (h : Happened) : Type 0 where
   pub more : ShowsMore past h.who h.deed.asked
   pub between : IsBetween k past h.who h.deed.asked
   pub follows : Follows past h.who h.deed.asked
+  pub answered : (p : Process) → process_at h.before h.who ≡ Some p → p.live ≡ true → IsAnswered h.before h.who p
 
 -- A run of whole instructions by these processes, one after the other: each of them makes a step, and shows what it must. No
 -- identity is given twice, and each access is allowed by the labels and brackets that segments were given.

@@ -1,5 +1,6 @@
 -- What the layout promises of addresses.
 use Rattle.std.specs.Prelude.{◌≡◌, ℕ, ◌*◌, ◌<◌, true}
+use Rattle.words_layout.specs.Sizes.{class_words}
 use Rattle.words_layout.specs.Words.{Word, address, class_of}
 use Rattle.words_layout.specs.Limits.{word_in_limits}
 
@@ -15,4 +16,4 @@ AddressesTellTheClass = (class : ℕ) (word : Word) → word_in_limits word ≡ 
 -- every word of a class has its address within the layout of that many classes
 abbrev pub AddressesAreWithin : Type 0
 AddressesAreWithin =
-    (classes class : ℕ) (word : Word) → class < classes → word_in_limits word ≡ true → address class word < 34869 * classes
+    (classes class : ℕ) (word : Word) → class < classes → word_in_limits word ≡ true → address class word < class_words * classes

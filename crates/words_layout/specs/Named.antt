@@ -1,5 +1,6 @@
 -- The list of all words read by name, and the address operation of a named one: how the words in memory stand for the words of each class.
 use Rattle.std.specs.Prelude.{◌≡◌, ℕ, ◌*◌, ◌<◌, List, length, slice_index, replicate, true, if◌then◌else◌}
+use Rattle.words_layout.specs.Sizes.{class_words}
 use Rattle.words_layout.specs.Words.{Word, Started, Tickets, Finished, Places, ComponentOf, SequencerOf, Guarded, OfClass, address, Words, WordOp, answer_to, words_after}
 use Rattle.words_layout.specs.Limits.{word_in_limits, op_in_limits}
 use Rattle.words_layout.specs.Ops.{IsWithin, Performed}
@@ -44,7 +45,7 @@ pub record PerformedByName (before : List ℕ) (d : ℕ) (op : WordOp) (answer :
 -- an operation of a caller of class d performed at its addresses is performed by name
 abbrev pub OperationsGoByName : Type 0
 OperationsGoByName =
-    (classes d : ℕ) (op : WordOp) (before : List ℕ) (answer : ℕ) (after : List ℕ) → length before ≡ 34869 * classes → d < classes → op_in_limits classes op ≡ true →
+    (classes d : ℕ) (op : WordOp) (before : List ℕ) (answer : ℕ) (after : List ℕ) → length before ≡ class_words * classes → d < classes → op_in_limits classes op ≡ true →
     Performed before (op_at d op) answer after → PerformedByName before d op answer after
 
 -- the address operation of a named one within the limits is within the layout

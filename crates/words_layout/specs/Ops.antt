@@ -1,14 +1,15 @@
 -- One operation on the list of all words.
 use Rattle.std.specs.Prelude.{◌≡◌, ℕ, ◌+◌, ◌*◌, ◌%◌, ◌^◌, ◌<◌, List, slice_index, slice_set}
+use Rattle.words_layout.specs.Sizes.{class_words}
 use Rattle.words_layout.specs.declared.op.Op.{Op}
 use Rattle.words_layout.specs.declared.op.Op.TheVariants.{Nothing, Load, Store, Add}
 
 -- the word that the operation names lies in the layout of so many classes
 abbrev pub IsWithin : ℕ → Op → Type 0
 IsWithin classes Nothing = Unit {0}
-IsWithin classes (Load a) = a.0 < 34869 * classes
-IsWithin classes (Store a x) = a.0 < 34869 * classes
-IsWithin classes (Add a x) = a.0 < 34869 * classes
+IsWithin classes (Load a) = a.0 < class_words * classes
+IsWithin classes (Store a x) = a.0 < class_words * classes
+IsWithin classes (Add a x) = a.0 < class_words * classes
 
 -- what the operation answers on these words: the word, for Add the word before it, and else 0
 abbrev pub answer_on : List ℕ → Op → ℕ

@@ -1,6 +1,7 @@
 -- The words of a class by kind, their addresses, and the one operation of a step.
 use Rattle.std.specs.Prelude.{ℕ, ◌+◌, ◌*◌, ◌/◌, ◌%◌, ◌^◌, Bool, true, false, ◌&&◌, ◌==◌, if◌then◌else◌}
 use Rattle.lists.specs.Lists.{put}
+use Rattle.words_layout.specs.Sizes.{class_words}
 use Rattle.words_layout.specs.Segments.{seg_number, same_seg, put_seg}
 use Rattle.words_layout.specs.declared.segment.SegId.{SegId}
 
@@ -76,11 +77,11 @@ offset (Guarded w) = guarded_offset w
 
 -- the address of a word of a class; each class has 34,869 words
 abbrev pub address : ℕ → Word → ℕ
-address class word = 34869 * class + offset word
+address class word = class_words * class + offset word
 
 -- the class of an address
 abbrev pub class_of : ℕ → ℕ
-class_of a = a / 34869
+class_of a = a / class_words
 
 -- the guarded words of one class, by name
 abbrev pub GuardedWords : Type 0

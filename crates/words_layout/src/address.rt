@@ -3,6 +3,7 @@
 //! the components of an eventcount alone stand each among the words of the signalling class.
 
 ghost use Rattle.std.specs.Prelude.{◌≡◌, ◌<◌, ◌+◌, ◌*◌};
+ghost use Rattle.words_layout.specs.Sizes.{class_words, most_classes, most_frames};
 ghost use Rattle.words_layout.specs.Limits.{IsIdentity};
 ghost use Rattle.words_layout.specs.Words.{address, class_of, OfClass, OfSegment, Started, Tickets, Finished, Places, ComponentOf, SequencerOf, Guarded, NextSerial, HomeOf, WritesOf, EntryOf, FrameTenant, FrameWord, PageTenant, PageWord};
 
@@ -45,7 +46,7 @@ const COMPONENTS: u32 = 18_485;
 
 /// The class of a word.
 pub fn class_of(addr: Addr) -> u8
-    requires { addr.0 < 34869 * 16 }
+    requires { addr.0 < class_words * most_classes }
     ensures { result ≡ class_of addr.0 }
 {
     (addr.0 / CLASS_WORDS) as u8
@@ -53,26 +54,26 @@ pub fn class_of(addr: Addr) -> u8
 
 /// The word at an offset of a class.
 fn at_offset(class: u8, offset: u32) -> Addr
-    requires class { class < 16 }
-    requires offset { offset < 34869 }
-    ensures { result.0 ≡ 34869 * class + offset }
+    requires class { class < most_classes }
+    requires offset { offset < class_words }
+    ensures { result.0 ≡ class_words * class + offset }
 {
     Addr(CLASS_WORDS * class as u32 + offset)
 }
 
 /// The word at an offset of a segment's own words.
 fn at_segment(class: u8, seg: SegId, offset: u32) -> Addr
-    requires class { class < 16 }
+    requires class { class < most_classes }
     requires seg { IsIdentity seg }
     requires offset { offset < 20 }
-    ensures { result.0 ≡ 34869 * class + (offset + 15 * (64 * seg.mentor + seg.serial)) }
+    ensures { result.0 ≡ class_words * class + (offset + 15 * (64 * seg.mentor + seg.serial)) }
 {
     at_offset(class, offset + SEG_WORDS * seg_number(seg))
 }
 
 /// Turns of the class started.
 pub fn started_addr(class: u8) -> Addr
-    requires { class < 16 }
+    requires { class < most_classes }
     ensures { result.0 ≡ address class (Started OfClass) }
 {
     at_offset(class, 0)
@@ -80,7 +81,7 @@ pub fn started_addr(class: u8) -> Addr
 
 /// Turn tickets of the class.
 pub fn ticket_addr(class: u8) -> Addr
-    requires { class < 16 }
+    requires { class < most_classes }
     ensures { result.0 ≡ address class (Tickets OfClass) }
 {
     at_offset(class, 1)
@@ -88,7 +89,7 @@ pub fn ticket_addr(class: u8) -> Addr
 
 /// Turns of the class finished.
 pub fn finished_addr(class: u8) -> Addr
-    requires { class < 16 }
+    requires { class < most_classes }
     ensures { result.0 ≡ address class (Finished OfClass) }
 {
     at_offset(class, 2)
@@ -96,7 +97,7 @@ pub fn finished_addr(class: u8) -> Addr
 
 /// Console places of the class used.
 pub fn console_addr(class: u8) -> Addr
-    requires { class < 16 }
+    requires { class < most_classes }
     ensures { result.0 ≡ address class Places }
 {
     at_offset(class, CONSOLE)
@@ -104,7 +105,7 @@ pub fn console_addr(class: u8) -> Addr
 
 /// The next serial under mentors of the class.
 pub fn serial_addr(class: u8) -> Addr
-    requires { class < 16 }
+    requires { class < most_classes }
     ensures { result.0 ≡ address class (Guarded NextSerial) }
 {
     at_offset(class, NEXT_SERIAL)
@@ -112,7 +113,7 @@ pub fn serial_addr(class: u8) -> Addr
 
 /// The home of a segment of the class.
 pub fn home_addr(class: u8, seg: SegId) -> Addr
-    requires class { class < 16 }
+    requires class { class < most_classes }
     requires seg { IsIdentity seg }
     ensures { result.0 ≡ address class (Guarded (HomeOf seg)) }
 {
@@ -121,7 +122,7 @@ pub fn home_addr(class: u8, seg: SegId) -> Addr
 
 /// The count of writes of a segment of the class.
 pub fn writes_addr(class: u8, seg: SegId) -> Addr
-    requires class { class < 16 }
+    requires class { class < most_classes }
     requires seg { IsIdentity seg }
     ensures { result.0 ≡ address class (Guarded (WritesOf seg)) }
 {
@@ -130,7 +131,7 @@ pub fn writes_addr(class: u8, seg: SegId) -> Addr
 
 /// The sequencer of a segment of the class.
 pub fn sequencer_addr(class: u8, seg: SegId) -> Addr
-    requires class { class < 16 }
+    requires class { class < most_classes }
     requires seg { IsIdentity seg }
     ensures { result.0 ≡ address class (SequencerOf seg) }
 {
@@ -139,8 +140,8 @@ pub fn sequencer_addr(class: u8, seg: SegId) -> Addr
 
 /// The component in class `class` of the eventcount of a segment of class `of`.
 pub fn component_addr(class: u8, of: u8, seg: SegId) -> Addr
-    requires class { class < 16 }
-    requires of { of < 16 }
+    requires class { class < most_classes }
+    requires of { of < most_classes }
     requires seg { IsIdentity seg }
     ensures { result.0 ≡ address class (ComponentOf of seg) }
 {
@@ -149,7 +150,7 @@ pub fn component_addr(class: u8, of: u8, seg: SegId) -> Addr
 
 /// Turns of a segment of the class started.
 pub fn seg_started_addr(class: u8, seg: SegId) -> Addr
-    requires class { class < 16 }
+    requires class { class < most_classes }
     requires seg { IsIdentity seg }
     ensures { result.0 ≡ address class (Started (OfSegment seg)) }
 {
@@ -158,7 +159,7 @@ pub fn seg_started_addr(class: u8, seg: SegId) -> Addr
 
 /// Turn tickets of a segment of the class.
 pub fn seg_ticket_addr(class: u8, seg: SegId) -> Addr
-    requires class { class < 16 }
+    requires class { class < most_classes }
     requires seg { IsIdentity seg }
     ensures { result.0 ≡ address class (Tickets (OfSegment seg)) }
 {
@@ -167,7 +168,7 @@ pub fn seg_ticket_addr(class: u8, seg: SegId) -> Addr
 
 /// Turns of a segment of the class finished.
 pub fn seg_finished_addr(class: u8, seg: SegId) -> Addr
-    requires class { class < 16 }
+    requires class { class < most_classes }
     requires seg { IsIdentity seg }
     ensures { result.0 ≡ address class (Finished (OfSegment seg)) }
 {
@@ -176,7 +177,7 @@ pub fn seg_finished_addr(class: u8, seg: SegId) -> Addr
 
 /// An entry, 0 to 7, of a segment of the class.
 pub fn entry_addr(class: u8, seg: SegId, entry: u8) -> Addr
-    requires class { class < 16 }
+    requires class { class < most_classes }
     requires seg { IsIdentity seg }
     requires entry { entry < 8 }
     ensures { result.0 ≡ address class (Guarded (EntryOf seg entry)) }
@@ -186,8 +187,8 @@ pub fn entry_addr(class: u8, seg: SegId, entry: u8) -> Addr
 
 /// The tenant of a frame of the class: 0 for none, else the number of its segment plus one.
 pub fn frame_tenant_addr(class: u8, frame: u8) -> Addr
-    requires class { class < 16 }
-    requires frame { frame < 16 }
+    requires class { class < most_classes }
+    requires frame { frame < most_frames }
     ensures { result.0 ≡ address class (Guarded (FrameTenant frame)) }
 {
     at_offset(class, FRAMES + FRAME_WORDS * frame as u32)
@@ -195,8 +196,8 @@ pub fn frame_tenant_addr(class: u8, frame: u8) -> Addr
 
 /// A word of a frame of the class.
 pub fn frame_word_addr(class: u8, frame: u8, place: u8) -> Addr
-    requires class { class < 16 }
-    requires frame { frame < 16 }
+    requires class { class < most_classes }
+    requires frame { frame < most_frames }
     requires place { place < 64 }
     ensures { result.0 ≡ address class (Guarded (FrameWord frame place)) }
 {
@@ -208,7 +209,7 @@ pub fn frame_word_addr(class: u8, frame: u8, place: u8) -> Addr
 
 /// The tenant of a page of the class: 0 for none, else the number of its segment plus one.
 pub fn page_tenant_addr(class: u8, page: u8) -> Addr
-    requires class { class < 16 }
+    requires class { class < most_classes }
     requires page { page < 32 }
     ensures { result.0 ≡ address class (Guarded (PageTenant page)) }
 {
@@ -217,7 +218,7 @@ pub fn page_tenant_addr(class: u8, page: u8) -> Addr
 
 /// A word of a page of the class.
 pub fn page_word_addr(class: u8, page: u8, place: u8) -> Addr
-    requires class { class < 16 }
+    requires class { class < most_classes }
     requires page { page < 32 }
     requires place { place < 64 }
     ensures { result.0 ≡ address class (Guarded (PageWord page place)) }

@@ -1,6 +1,7 @@
 //! Words in memory.
 
 ghost use Rattle.std.specs.Prelude.{◌≡◌, ◌/◌, ◌*◌, ◌<◌, ◌≤◌, IfOk, length, replicate, slice_index};
+ghost use Rattle.words_layout.specs.Sizes.{class_words, most_classes};
 ghost use Rattle.words_layout.specs.Ops.{Performed};
 
 use crate::address::Addr;
@@ -18,20 +19,21 @@ pub struct PlainWords {
 
 impl Model for PlainWords {
     ghost use Rattle.std.specs.Prelude.{◌≡◌, ℕ, ◌*◌, ◌≤◌, List, vec_len};
+    ghost use Rattle.words_layout.specs.Sizes.{class_words, most_classes};
 
     ghost Value = { List ℕ };
 
     ghost view = { λ w. w.words.items };
 
-    ghost invariant = { λ w. (vec_len w.words ≡ 34869 * w.classes) × (1 ≤ w.classes) × (w.classes ≤ 16) };
+    ghost invariant = { λ w. (vec_len w.words ≡ class_words * w.classes) × (1 ≤ w.classes) × (w.classes ≤ most_classes) };
 }
 
 impl PlainWords {
     /// The words of so many classes, all 0.
     pub fn new(alloc: Global, classes: u8) -> Result<PlainWords, AllocError>
-        requires { (1 ≤ classes) × (classes ≤ 16) }
-        ensures words { IfOk result (λ w. w ≡ replicate (34869 * classes) 0) }
-        ensures layout { IfOk result (λ w. length w / 34869 ≡ classes) }
+        requires { (1 ≤ classes) × (classes ≤ most_classes) }
+        ensures words { IfOk result (λ w. w ≡ replicate (class_words * classes) 0) }
+        ensures layout { IfOk result (λ w. length w / class_words ≡ classes) }
     {
         let words = vec![in alloc; 0u64; CLASS_WORDS as usize * classes as usize]?;
         Ok(PlainWords { classes, words })
@@ -54,16 +56,16 @@ impl PlainWords {
 
     /// The number of classes of the layout, from 1 to 16.
     pub fn classes(&self) -> u8
-        ensures layout { result ≡ length self.now / 34869 }
-        ensures length { length self.now ≡ 34869 * result }
-        ensures range { (1 ≤ result) × (result ≤ 16) }
+        ensures layout { result ≡ length self.now / class_words }
+        ensures length { length self.now ≡ class_words * result }
+        ensures range { (1 ≤ result) × (result ≤ most_classes) }
     {
         self.classes
     }
 }
 
 impl WordPort for PlainWords {
-    ghost classes = { λ w. length w / 34869 };
+    ghost classes = { λ w. length w / class_words };
 
     ghost relation = { λ before op answer after. Performed before op answer after };
 

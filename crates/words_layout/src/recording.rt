@@ -1,6 +1,7 @@
 //! Words that keep a tape of what was performed on them, for tests.
 
 ghost use Rattle.std.specs.Prelude.{◌≡◌, ◌/◌, [], false, length};
+ghost use Rattle.words_layout.specs.Sizes.{class_words};
 ghost use Rattle.words_layout.specs.Recorded.{Records};
 
 use crate::op::{Op, WordPort};
@@ -54,7 +55,7 @@ impl RecordingWords {
 }
 
 impl WordPort for RecordingWords {
-    ghost classes = { λ r. length r.words / 34869 };
+    ghost classes = { λ r. length r.words / class_words };
 
     ghost relation = { λ before op answer after. Records before op answer after };
 

@@ -1,3 +1,5 @@
 pub mod Cases
 pub mod TwoLooks
 pub mod Granting
+pub mod Refusing
+pub mod TurnNumbers

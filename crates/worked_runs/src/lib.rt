@@ -3,5 +3,7 @@
 #![tactic(auto)]
 
 pub mod cases;
+pub mod counting;
 pub mod granting;
 pub mod looks;
+pub mod refusing;
