@@ -1,44 +1,29 @@
 -- Events of classes without a live process do nothing.
-use Rattle.std.proofs.Common.{◌≡◌, ℕ, ◌+◌, ◌%◌, ◌<◌, ◌⊎◌, inl, inr, Bool, true, false, List, [], ◌∷◌, ◌++◌, length, refl, sym, ap, subst, ◌∙◌, Option, None, MatchOption}
+use Rattle.std.proofs.Common.{◌≡◌, ℕ, ◌<◌, ◌⊎◌, inl, inr, Bool, true, false, List, [], ◌∷◌, ◌++◌, length, refl, sym, ap, subst, ◌∙◌, Option, None, MatchOption}
 use Rattle.std.specs.Prelude.{if◌then◌else◌, slice_index_or, slice_set}
 use Rattle.std.specs.List.{AllByRecursion}
-use Rattle.std.specs.Option.{option_map}
 use Rattle.std.proofs.lemmas.Bool.{cases_eq}
-use Rattle.std.proofs.lemmas.List.{get_or-set_same, get_or-set_other, set-get_or}
+use Rattle.std.proofs.lemmas.List.{get_or-set_same, get_or-set_other}
 use Rattle.words_layout.specs.Words.{WordOp}
 use Rattle.words_layout.specs.declared.op.Event.{Event}
 use Rattle.class_model.specs.Config.{Shared, classes}
 use Rattle.class_model.specs.Process.{ProcName}
-use Rattle.process.specs.Running.{Running, next_op}
 use Rattle.machine.specs.Banks.{State, no_processing, bank_at, vp_in, vp_at, with_vp}
-use Rattle.machine.specs.Machine.{VirtualProcessor, is_live, live_slot, slot_at, turn_of, vp_op}
 use Rattle.machine.specs.Plain.{OnWords}
-use Rattle.machine.specs.Processing.{Processing, holds_live, vp_of}
+use Rattle.machine.specs.Processing.{Processing, holds_live}
 use Rattle.machine.specs.Steps.{EventBy, HasEnded, InRange, Performs, Rests, RunsBy, named}
 use Rattle.machine.proofs.Events.{same_length}
-use Rattle.machine.proofs.Slots.{live_is}
+use Rattle.machine.proofs.Idle.{no_op, vp_kept}
 use Rattle.low_run.specs.Flags.{is_low, low_of}
 use Rattle.low_run.specs.LowRuns.{OthersEnded}
 
--- ---- a virtual processor without a live process
-
-no_slot : (v : VirtualProcessor) → ((i : ℕ) → is_live (slot_at v i) ≡ false) → live_slot v ≡ None
-no_slot v h = rw (h ((v.current + 0) % 4), h ((v.current + 1) % 4), h ((v.current + 2) % 4), h ((v.current + 3) % 4)) refl
-
-no_op : (s : Shared) (v : Processing) → ((i : ℕ) → holds_live (slice_index_or v.slots i None) ≡ false) → vp_op s v.class (vp_of s v) ≡ None
-no_op s v h =
-    ap (λ (o : Option ℕ). option_map (λ (x : ℕ × Running). next_op s v.class x.1) (turn_of (vp_of s v) o)) (no_slot (vp_of s v) (λ i. live_is s v i ∙ h i))
-
--- ---- its event changes nothing
+-- ---- the event of a virtual processor without a live process changes nothing
 
 same_state : (m n : State (List ℕ)) → n.words ≡ m.words → n.banks ≡ m.banks → n.shared ≡ m.shared → n ≡ m
 same_state m n w b s =
     ap (λ (x : List ℕ). let y : State (List ℕ) = record { words = x; banks = n.banks; shared = n.shared } in y) w
     ∙ ap (λ (x : List (List Processing)). let y : State (List ℕ) = record { words = m.words; banks = x; shared = n.shared } in y) b
     ∙ ap (λ (x : Shared). let y : State (List ℕ) = record { words = m.words; banks = m.banks; shared = x } in y) s
-
-vp_kept : (banks : List (List Processing)) (p c : ℕ) → with_vp banks p c (vp_at banks p c) ≡ banks
-vp_kept banks p c = ap (λ (bank : List Processing). slice_set banks p bank) (set-get_or (bank_at banks p) c no_processing) ∙ set-get_or banks p []
 
 nothing_done : (e : Event) (m n : State (List ℕ)) (effect : Option ℕ) → EventBy OnWords e m n effect → HasEnded m e.class → n ≡ m
 nothing_done e m n effect h ended =

@@ -1,4 +1,5 @@
 pub mod Slots
+pub mod Idle
 pub mod Absorbing
 pub mod Stepping
 pub mod Events

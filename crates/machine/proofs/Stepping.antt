@@ -1,11 +1,11 @@
 -- Steps of a virtual processor by what is performed.
-use Rattle.std.proofs.Common.{ℕ, ◌<◌, ◌≡◌, refl, sym, ap, ◌∙◌, subst, Option, Some, None, MatchOption, Bool}
+use Rattle.std.proofs.Common.{ℕ, ◌<◌, ◌≡◌, refl, sym, subst, Option, Some, None, MatchOption, Bool}
 use Rattle.std.specs.Prelude.{slice_index_or, slice_set}
 use Rattle.words_layout.specs.Named.{op_at}
 use Rattle.words_layout.specs.Words.{WordOp}
 use Rattle.words_layout.specs.declared.op.Op.{Op}
 use Rattle.policy.specs.declared.answers.Outcome.{Outcome as Answer}
-use Rattle.class_model.specs.Config.{Shared, classes}
+use Rattle.class_model.specs.Config.{Shared}
 use Rattle.process.specs.Fits.{OpFits}
 use Rattle.process.specs.Running.{next_op, absorb}
 use Rattle.process.specs.declared.doing.Absorbed.{Absorbed as Answered}

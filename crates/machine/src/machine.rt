@@ -129,13 +129,24 @@ impl<W: WordPort> Machine<W> {
         self.banks.step(event.processor, event.class, &mut self.words, &self.shared)
     }
 
+    /// One event, as by `step`. Where no process of its virtual processor is live it does nothing; this is tested first, so
+    /// that such an event costs one test.
+    fn step_live(&mut self, event: Event)
+        requires { InRange self.old event }
+        ensures { (effect : Option ℕ) × EventBy W.relation event self.old self.new effect }
+    {
+        if !self.virtual_processor(event.processor, event.class).is_idle() {
+            self.step(event);
+        }
+    }
+
     /// Each event in order.
     pub fn run(&mut self, events: &[Event])
         requires { All (λ e. InRange self.old e) events.now }
         ensures { (names : List ProcName) × RunsBy W.relation events.now self.old self.new names }
     {
         for event in events {
-            self.step(*event);
+            self.step_live(*event);
         }
     }
 
