@@ -2,6 +2,7 @@
 
 ghost use Rattle.std.specs.Prelude.{◌≡◌, ◌<◌, ◌≤◌, ◌+◌, length};
 ghost use Rattle.words_layout.specs.Limits.{IsIdentity};
+ghost use Rattle.words_layout.specs.Sizes.{most_classes, most_frames, most_words};
 ghost use Rattle.turns.specs.Parts.{guard_class, look_in_body};
 ghost use Rattle.data_gates.specs.declared.fetch.Rest.{Rest};
 ghost use Rattle.data_gates.specs.FetchRest.{loads};
@@ -39,7 +40,7 @@ pub struct Fetch {
     frame: u8,
     words: ArrayVec<u64, 64>,
     ghost class_is: { guard_class look.guard ≡ class },
-    ghost in_limits: { (class < 16) × IsIdentity seg × (offset + count ≤ 64) × (frame < 16) × (1 ≤ count) },
+    ghost in_limits: { (class < most_classes) × IsIdentity seg × (offset + count ≤ most_words) × (frame < most_frames) × (1 ≤ count) },
     ghost in_body: { look_in_body look.part ≡ loads rest },
     ghost room: { rest ≡ Rest.Words → length words.items < count },
 }
@@ -64,7 +65,7 @@ impl Fetch {
     /// Makes the private tests. An empty place, or one that may be signalled alone, gives UnknownSegno.
     #[tactic(auto, using(crate::proofs::Bounds::fetch_bounds, crate::proofs::Bounds::update_bounds))]
     pub fn start(who: &Caller, known: Option<&Known>, offset: u64, count: u64, pad: u64) -> Fetch
-        requires class { who.now.class < 16 }
+        requires class { who.now.class < most_classes }
         requires known { KnownTo who.now.class (option_map (λ k. k.now) known) }
         ensures act { act_of result ≡ begins (usable (option_map (λ k. k.now) known.entry)) (fetch_tests who.now.ring offset count pad) (λ k. LookAct k.class (OfSegment k.seg) (fetch_body k.seg offset count pad)) }
         ensures fresh { doing_of result ≡ Fresh }
@@ -94,7 +95,7 @@ impl Fetch {
     pub fn restart(&mut self, known: &Known, offset: u8, count: u8, pad: u8)
         requires known { IsKnown known.now }
         requires some { 1 ≤ count }
-        requires segment { offset + count ≤ 64 }
+        requires segment { offset + count ≤ most_words }
         ensures act { act_of self.new ≡ LookAct known.now.class (OfSegment known.now.seg) (fetch_body known.now.seg offset count pad) }
         ensures fresh { doing_of self.new ≡ Fresh }
         ensures class { self.new.class ≡ known.now.class }
@@ -113,7 +114,7 @@ impl Fetch {
 
     /// The gate that a private test refuses.
     fn refused(class: u8, rule: Rule) -> Fetch
-        requires { class < 16 }
+        requires { class < most_classes }
         ensures act { act_of result ≡ refusing (Refused rule) }
         ensures fresh { doing_of result ≡ Fresh }
         ensures class { result.class ≡ class }

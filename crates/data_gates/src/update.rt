@@ -2,6 +2,7 @@
 
 ghost use Rattle.std.specs.Prelude.{◌≡◌, ◌<◌, ◌≤◌, ◌+◌};
 ghost use Rattle.words_layout.specs.Limits.{IsIdentity};
+ghost use Rattle.words_layout.specs.Sizes.{most_classes, most_frames, most_words};
 ghost use Rattle.turns.specs.Parts.{turn_is_held};
 ghost use Rattle.turns.specs.declared.guard.Guard.{Guard};
 ghost use Rattle.data_gates.specs.UpdateRest.{holds};
@@ -45,7 +46,7 @@ pub struct Update {
     writes: u64,
     words: [u64; 64],
     ghost guard_is: { turn.guard ≡ Guard.Segment class seg },
-    ghost in_limits: { (class < 16) × IsIdentity seg × (offset + count ≤ 64) × (pad + count ≤ 64) × (frame < 16) × (1 ≤ count) },
+    ghost in_limits: { (class < most_classes) × IsIdentity seg × (offset + count ≤ most_words) × (pad + count ≤ most_words) × (frame < most_frames) × (1 ≤ count) },
     ghost held: { turn_is_held turn.part ≡ holds rest },
     ghost left: { rest ≡ Rest.Words → stored < count },
 }
@@ -77,7 +78,7 @@ impl Update {
         pad: u64,
         words: &[u64; 64],
     ) -> Update
-        requires class { who.now.class < 16 }
+        requires class { who.now.class < most_classes }
         requires known { KnownTo who.now.class (option_map (λ k. k.now) known) }
         ensures act { act_of result ≡ begins (usable (option_map (λ k. k.now) known.entry)) (update_tests who.now.ring offset count pad) (λ k. SegmentTurn k.seg (update_body k.seg offset (part_of words.now pad count))) }
         ensures fresh { doing_of result ≡ Fresh }
@@ -116,11 +117,11 @@ impl Update {
         pad: u8,
         words: &[u64; 64],
     )
-        requires class { class < 16 }
+        requires class { class < most_classes }
         requires known { IsKnown known.now }
         requires some { 1 ≤ count }
-        requires segment { offset + count ≤ 64 }
-        requires in_pad { pad + count ≤ 64 }
+        requires segment { offset + count ≤ most_words }
+        requires in_pad { pad + count ≤ most_words }
         ensures act { act_of self.new ≡ SegmentTurn known.now.seg (update_body known.now.seg offset (part_of words.now pad count)) }
         ensures fresh { doing_of self.new ≡ Fresh }
         ensures class { self.new.class ≡ class }
@@ -141,7 +142,7 @@ impl Update {
 
     /// The gate that a private test refuses.
     fn refused(class: u8, rule: Rule, words: &[u64; 64]) -> Update
-        requires { class < 16 }
+        requires { class < most_classes }
         ensures act { act_of result ≡ refusing (Refused rule) }
         ensures fresh { doing_of result ≡ Fresh }
         ensures class { result.class ≡ class }

@@ -2,6 +2,7 @@
 
 ghost use Rattle.std.specs.Prelude.{◌<◌};
 ghost use Rattle.words_layout.specs.Limits.{IsIdentity};
+ghost use Rattle.words_layout.specs.Sizes.{most_classes};
 
 use gate_parts::no_segment;
 use policy::{Caller, Known, Outcome, Reply, Rule, advance_refusal};
@@ -14,7 +15,7 @@ pub struct Advance {
     known: Known,
     /// The first broken private test.
     refusal: Option<Rule>,
-    ghost in_limits: { (class < 16) × (known.class < 16) × IsIdentity known.seg },
+    ghost in_limits: { (class < most_classes) × (known.class < most_classes) × IsIdentity known.seg },
 }
 
 impl Advance {
@@ -29,7 +30,7 @@ impl Advance {
 
     /// Makes the private tests. An empty place gives UnknownSegno, and a place that may be signalled alone is no empty one.
     pub fn start(who: &Caller, known: Option<&Known>) -> Advance
-        requires class { who.now.class < 16 }
+        requires class { who.now.class < most_classes }
         requires known { KnownTo who.now.class (option_map (λ k. k.now) known) }
         ensures act { advance_act result.refusal result.known ≡ begins (option_map (λ k. k.now) known.entry) (advance_tests who.now.ring) (advance_act None) }
         ensures class { result.class ≡ who.now.class }

@@ -1,6 +1,7 @@
 //! The classes of a set of bits.
 
 ghost use Rattle.std.specs.Prelude.{◌≡◌, ◌<◌, ℕ, length, slice_index_or};
+ghost use Rattle.words_layout.specs.Sizes.{most_classes};
 ghost use Rattle.evc_gates.specs.Counting.{classes_of};
 
 use arrayvec::ArrayVec;
@@ -9,7 +10,7 @@ use arrayvec::ArrayVec;
 #[tactic(auto, using(crate::proofs::Bits::kept_more, crate::proofs::Bits::left_out, crate::proofs::Bits::all_below))]
 pub fn classes_of_bits(bits: u16) -> ArrayVec<u8, 16>
     ensures classes { result.items ≡ classes_of bits }
-    ensures below { (k : ℕ) → k < length result.items → slice_index_or result.items k 0 < 16 }
+    ensures below { (k : ℕ) → k < length result.items → slice_index_or result.items k 0 < most_classes }
 {
     let mut classes = ArrayVec::new();
     for class in 0..16u8 {

@@ -1,6 +1,7 @@
 //! Out: the next place on the console of the caller's class.
 
 ghost use Rattle.std.specs.Prelude.{◌<◌};
+ghost use Rattle.words_layout.specs.Sizes.{most_classes};
 
 use policy::{Caller, Outcome, Reply, Rule};
 use words_layout::{Op, console_addr};
@@ -11,7 +12,7 @@ pub struct Out {
     class: u8,
     /// How many places the console has.
     size: u32,
-    ghost in_limits: { class < 16 },
+    ghost in_limits: { class < most_classes },
 }
 
 impl Out {
@@ -24,7 +25,7 @@ impl Out {
 
     /// Takes the next place of a console of this size.
     pub fn start(who: &Caller, size: u32) -> Out
-        requires { who.now.class < 16 }
+        requires { who.now.class < most_classes }
         ensures class { result.class ≡ who.now.class }
         ensures size { result.size ≡ size }
     {

@@ -2,6 +2,7 @@
 
 ghost use Rattle.std.specs.Prelude.{◌≡◌, ◌<◌, ◌≤◌, ◌^◌, None, ℕ, length, slice_index_or};
 ghost use Rattle.words_layout.specs.Limits.{IsIdentity};
+ghost use Rattle.words_layout.specs.Sizes.{most_classes};
 
 use crate::classes::classes_of_bits;
 use arrayvec::ArrayVec;
@@ -22,8 +23,8 @@ pub struct Sum {
     /// How many components were looked at, and their sum.
     seen: u8,
     sum: u64,
-    ghost in_limits: { (known.class < 16) × IsIdentity known.seg },
-    ghost classes_below: { (k : ℕ) → k < length classes.items → slice_index_or classes.items k 0 < 16 },
+    ghost in_limits: { (known.class < most_classes) × IsIdentity known.seg },
+    ghost classes_below: { (k : ℕ) → k < length classes.items → slice_index_or classes.items k 0 < most_classes },
 }
 
 impl Sum {
@@ -86,7 +87,7 @@ impl Sum {
     /// The class of the next component; class 0 where all were looked at.
     fn class(&self) -> u8
         ensures class { result ≡ slice_index self.now.classes.items self.now.seen }
-        ensures below { result < 16 }
+        ensures below { result < most_classes }
     {
         let classes = self.classes.as_slice();
         if (self.seen as usize) < classes.len() {

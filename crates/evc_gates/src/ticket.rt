@@ -2,6 +2,7 @@
 
 ghost use Rattle.std.specs.Prelude.{◌<◌};
 ghost use Rattle.words_layout.specs.Limits.{IsIdentity};
+ghost use Rattle.words_layout.specs.Sizes.{most_classes};
 
 use gate_parts::no_segment;
 use policy::{Caller, Known, Outcome, Reply, Rule, ticket_refusal, usable};
@@ -14,7 +15,7 @@ pub struct Ticket {
     known: Known,
     /// The first broken private test.
     refusal: Option<Rule>,
-    ghost in_limits: { (class < 16) × (known.class < 16) × IsIdentity known.seg },
+    ghost in_limits: { (class < most_classes) × (known.class < most_classes) × IsIdentity known.seg },
 }
 
 impl Ticket {
@@ -30,7 +31,7 @@ impl Ticket {
 
     /// Makes the private tests. An empty place, or one that may be signalled alone, gives UnknownSegno.
     pub fn start(who: &Caller, known: Option<&Known>) -> Ticket
-        requires class { who.now.class < 16 }
+        requires class { who.now.class < most_classes }
         requires known { KnownTo who.now.class (option_map (λ k. k.now) known) }
         ensures act { ticket_act result.refusal result.known ≡ begins (usable (option_map (λ k. k.now) known.entry)) (ticket_tests who.now.ring) (ticket_act None) }
         ensures class { result.class ≡ who.now.class }

@@ -2,6 +2,7 @@
 
 ghost use Rattle.std.specs.Prelude.{◌≡◌, ◌<◌, ◌||◌, true};
 ghost use Rattle.words_layout.specs.Named.{op_at};
+ghost use Rattle.words_layout.specs.Sizes.{most_classes};
 ghost use Rattle.policy.specs.Outcome.{Outcome};
 ghost use Rattle.turns.specs.Bodies.{Outer};
 ghost use Rattle.turns.specs.Classes.{NamesOnly};
@@ -25,7 +26,7 @@ pub trait Body {
 
     /// The next operation, on words of this class.
     fn op(&self, class: u8) -> Op
-        requires class { class < 16 }
+        requires class { class < most_classes }
         requires acts { acts (next_of (left self.now)) ≡ true }
         ensures op { result ≡ op_at class (body_op class (left self.now)) }
         ensures class { NamesOnly class result };

@@ -1,5 +1,7 @@
 //! A gate whose body stands in the turn of a class, and from where it enters it in the turn of a segment.
 
+ghost use Rattle.words_layout.specs.Sizes.{most_classes};
+
 use crate::body::Body;
 use crate::next::Next;
 use policy::{Outcome, Reply, Rule};
@@ -37,7 +39,7 @@ impl<B: Body> InTurns<B> {
     fn next_op(&self, class: u8) -> Op
         requires fits { fits_by B.left self.now ≡ true }
         requires class { self.now.turns.class ≡ class }
-        requires limit { class < 16 }
+        requires limit { class < most_classes }
         ensures op { result ≡ op_at class (step_op class (ClassTurn (B.whole self.now.body)) (far_by B.whole B.left self.now)) }
         ensures class { NamesOnly class result }
     {
@@ -144,7 +146,7 @@ impl<B: Body> Work<B> {
 
     /// A body that is to run in a turn of the class.
     pub fn new(class: u8, body: B) -> Work<B>
-        requires { class < 16 }
+        requires { class < most_classes }
         ensures act { act_by B.whole result ≡ ClassTurn (B.whole body) }
         ensures fresh { doing_by B.whole B.left result ≡ Fresh }
         ensures class { of_class class result ≡ true }
@@ -159,7 +161,7 @@ impl<B: Body> Work<B> {
     /// The operation of the next step.
     pub fn next_op(&self, class: u8) -> Op
         requires class { of_class class self.now ≡ true }
-        requires limit { class < 16 }
+        requires limit { class < most_classes }
         requires runs { runs B.left self.now ≡ true }
         ensures op { result ≡ op_at class (step_op class (act_by B.whole self.now) (doing_by B.whole B.left self.now)) }
         ensures class { NamesOnly class result }

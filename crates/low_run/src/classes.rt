@@ -1,6 +1,7 @@
 //! The classes at or below a class.
 
 ghost use Rattle.std.specs.Prelude.{◌≡◌, ◌<◌, length};
+ghost use Rattle.words_layout.specs.Sizes.{most_classes};
 ghost use Rattle.low_run.specs.Flags.{AreLow, is_low};
 
 use labels::{ClassTable, MAX_CLASSES};
@@ -15,12 +16,13 @@ pub struct LowClasses {
 
 impl Model for LowClasses {
     ghost use Rattle.std.specs.Prelude.{◌≡◌, Bool, List, length};
+    ghost use Rattle.words_layout.specs.Sizes.{most_classes};
 
     ghost Value = { List Bool };
 
     ghost view = { λ l. l.flags };
 
-    ghost invariant = { λ l. length l.flags ≡ 16 };
+    ghost invariant = { λ l. length l.flags ≡ most_classes };
 }
 
 impl LowClasses {
@@ -39,7 +41,7 @@ impl LowClasses {
 
     /// Whether the class is among them.
     pub fn has(&self, class: u8) -> bool
-        requires { class < 16 }
+        requires { class < most_classes }
         ensures { result ≡ is_low self.now class }
     {
         self.flags[class as usize]

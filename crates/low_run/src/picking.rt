@@ -1,6 +1,7 @@
 //! The events at or below a class.
 
 ghost use Rattle.std.specs.Prelude.{◌≡◌, ◌<◌, ◌++◌, All, IfOk, OnOk, length};
+ghost use Rattle.words_layout.specs.Sizes.{most_classes};
 ghost use Rattle.low_run.specs.Flags.{is_low, picked};
 ghost use Rattle.machine.specs.Low.{low_events};
 
@@ -11,7 +12,7 @@ use words_layout::Event;
 
 /// Appends the event where its class is one of these.
 fn push_low(found: &mut Vec<Event>, event: Event, low: &LowClasses) -> Result<(), AllocError>
-    requires { event.class < 16 }
+    requires { event.class < most_classes }
     ensures { OnOk result (found.new.items ≡ found.old.items ++ picked (is_low low.now event.class) event) }
 {
     if low.has(event.class) {

@@ -1,6 +1,7 @@
 //! A run of the events at or below a class.
 
 ghost use Rattle.std.specs.Prelude.{◌≡◌, ◌↔◌, ◌<◌, ◌≤◌, All, IsTrue, List};
+ghost use Rattle.words_layout.specs.Sizes.{most_classes};
 ghost use Rattle.class_model.specs.Config.{classes};
 ghost use Rattle.class_model.specs.Process.{ProcName};
 ghost use Rattle.low_run.specs.Flags.{is_low, low_of, picked};
@@ -18,7 +19,7 @@ use words_layout::{Event, PlainWords};
 /// Takes the event where its class is one of these.
 fn step_low(machine: &mut Machine<PlainWords>, event: Event, low: &LowClasses)
     requires event { InRange machine.old event }
-    requires class { event.class < 16 }
+    requires class { event.class < most_classes }
     ensures { GoesOn (picked (is_low low.now event.class) event) machine.old machine.new }
 {
     if low.has(event.class) {
@@ -29,7 +30,7 @@ fn step_low(machine: &mut Machine<PlainWords>, event: Event, low: &LowClasses)
 /// Takes the events whose class is one of these, in order.
 fn run_picked(machine: &mut Machine<PlainWords>, events: &[Event], low: &LowClasses)
     requires events { All (λ e. InRange machine.old e) events.now }
-    requires few { classes machine.old.shared ≤ 16 }
+    requires few { classes machine.old.shared ≤ most_classes }
     ensures { (names : List ProcName) × RunsBy OnWords (low_of low.now events.now) machine.old machine.new names }
 {
     for event in events {
@@ -39,7 +40,7 @@ fn run_picked(machine: &mut Machine<PlainWords>, events: &[Event], low: &LowClas
 
 /// Whether no process is live of a class that isn't one of these.
 fn others_ended(machine: &Machine<PlainWords>, low: &LowClasses) -> bool
-    requires { classes machine.now.shared ≤ 16 }
+    requires { classes machine.now.shared ≤ most_classes }
     ensures { IsTrue result ↔ OthersEnded low.now machine.now }
 {
     for class in 0..machine.shared().table().count() {
@@ -53,7 +54,7 @@ fn others_ended(machine: &Machine<PlainWords>, low: &LowClasses) -> bool
 /// Likewise. Where no process of another class is live, no event is tested, since those of other classes do nothing then.
 fn run_these(machine: &mut Machine<PlainWords>, events: &[Event], low: &LowClasses)
     requires events { All (λ e. InRange machine.old e) events.now }
-    requires few { classes machine.old.shared ≤ 16 }
+    requires few { classes machine.old.shared ≤ most_classes }
     ensures { (names : List ProcName) × RunsBy OnWords (low_of low.now events.now) machine.old machine.new names }
 {
     if others_ended(machine, low) {

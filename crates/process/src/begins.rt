@@ -3,6 +3,7 @@
 ghost use Rattle.std.specs.Prelude.{◌≡◌, ◌<◌, ◌≤◌, false, Some, None, List, length};
 ghost use Rattle.labels.specs.Label.{ClassEntry};
 ghost use Rattle.lists.specs.Lists.{part_of};
+ghost use Rattle.words_layout.specs.Sizes.{most_classes, most_frames, most_pages};
 ghost use Rattle.words_layout.specs.Words.{OfClass, OfSegment};
 ghost use Rattle.policy.specs.Verdict.{first_broken};
 ghost use Rattle.policy.specs.Private.{make_known_tests, brackets_of, create_tests, delete_tests, swap_in_tests, swap_out_tests, fetch_tests, update_tests};
@@ -30,7 +31,7 @@ pub fn begin_make_known(
     mode: u64,
     answer: u64,
 ) -> Doing
-    requires class { who.now.class < 16 }
+    requires class { who.now.class < most_classes }
     requires table { who.now.class < length table.now }
     requires known { KnownTo who.now.class (Some known.now) }
     requires usable { IsUsable known.now }
@@ -54,7 +55,7 @@ pub fn begin_create(
     size: u64,
     answer: u64,
 ) -> Doing
-    requires class { who.now.class < 16 }
+    requires class { who.now.class < most_classes }
     requires table { known.now.class < length table.now }
     requires known { KnownTo who.now.class (Some known.now) }
     requires usable { IsUsable known.now }
@@ -69,7 +70,7 @@ pub fn begin_create(
 
 /// Delete: 1 was added to the started word of the class.
 pub fn begin_delete(who: &Caller, known: &Known, entry: u64, answer: u64) -> Doing
-    requires class { who.now.class < 16 }
+    requires class { who.now.class < most_classes }
     requires known { KnownTo who.now.class (Some known.now) }
     requires usable { IsUsable known.now }
     requires passed { first_broken (delete_tests who.now.ring entry known.now) ≡ None }
@@ -83,9 +84,9 @@ pub fn begin_delete(who: &Caller, known: &Known, entry: u64, answer: u64) -> Doi
 
 /// Swapin: 1 was added to the started word of the class, which has so many frames.
 pub fn begin_swap_in(who: &Caller, known: &Known, frames: u8, answer: u64) -> Doing
-    requires class { who.now.class < 16 }
+    requires class { who.now.class < most_classes }
     requires known { KnownTo who.now.class (Some known.now) }
-    requires frames { frames ≤ 16 }
+    requires frames { frames ≤ most_frames }
     requires usable { IsUsable known.now }
     requires passed { first_broken (swap_in_tests who.now.ring known.now) ≡ None }
     ensures doing { (t : List ClassEntry) → doing_in t result ≡ OuterSecond (swap_in_body frames known.now) }
@@ -98,9 +99,9 @@ pub fn begin_swap_in(who: &Caller, known: &Known, frames: u8, answer: u64) -> Do
 
 /// Swapout: 1 was added to the started word of the class, which has so many pages.
 pub fn begin_swap_out(who: &Caller, known: &Known, pages: u8, answer: u64) -> Doing
-    requires class { who.now.class < 16 }
+    requires class { who.now.class < most_classes }
     requires known { KnownTo who.now.class (Some known.now) }
-    requires pages { pages ≤ 32 }
+    requires pages { pages ≤ most_pages }
     requires usable { IsUsable known.now }
     requires passed { first_broken (swap_out_tests who.now.ring known.now) ≡ None }
     ensures doing { (t : List ClassEntry) → doing_in t result ≡ OuterSecond (swap_out_body pages known.now) }
@@ -122,7 +123,7 @@ pub fn begin_fetch(
     pad: u64,
     answer: u64,
 )
-    requires class { who.now.class < 16 }
+    requires class { who.now.class < most_classes }
     requires known { KnownTo who.now.class (Some known.now) }
     requires usable { IsUsable known.now }
     requires passed { first_broken (fetch_tests who.now.ring offset count pad known.now) ≡ None }
@@ -158,7 +159,7 @@ pub fn begin_update(
     words: &[u64; 64],
     answer: u64,
 )
-    requires class { who.now.class < 16 }
+    requires class { who.now.class < most_classes }
     requires known { KnownTo who.now.class (Some known.now) }
     requires usable { IsUsable known.now }
     requires passed { first_broken (update_tests who.now.ring offset count pad known.now) ≡ None }

@@ -3,6 +3,10 @@ use Rattle.std.specs.Prelude.{◌≡◌, ℕ, List, Result, MatchResult}
 use Rattle.host_ports.specs.Ports.{Port, PushKeeps, IsPrefixTaken, Rose, with_bytes}
 use Rattle.report.specs.declared.printing.WriteFault.{WriteFault}
 
+-- how many bytes a line has at most
+abbrev pub line_bytes : ℕ
+line_bytes = 1408
+
 -- port 0 has taken this text, and nothing else has changed: no call failed
 pub record Pushed (before after : ℕ → Port) (text : List ℕ) : Type 0 where
   pub taken : (after 0).taken ≡ with_bytes (before 0).taken text

@@ -2,6 +2,7 @@
 
 ghost use Rattle.std.specs.Prelude.{◌≡◌, ◌<◌, ◌≤◌, ◌∷◌, [], length, map, codes, Some};
 ghost use Rattle.std.specs.Fmt.{decimal};
+ghost use Rattle.words_layout.specs.Sizes.{most_frames, most_pages, most_words};
 ghost use Rattle.words_layout.specs.Words.{FrameWord, PageWord};
 ghost use Rattle.words_layout.specs.Named.{words_in};
 ghost use Rattle.class_model.specs.Report.{line_of, state_word, entry_text, words_text};
@@ -118,8 +119,8 @@ pub fn segment_line(seg: SegId, found: &Found) -> Line
 /// The line of the words of a frame.
 pub fn frame_line(words: &PlainWords, class: u8, frame: u8, size: u8) -> Line
     requires class { HasClass words.now class }
-    requires frame { frame < 16 }
-    requires size { size ≤ 64 }
+    requires frame { frame < most_frames }
+    requires size { size ≤ most_words }
     ensures { result ≡ words_text (Some (words_from (λ i. (words_in words.now class).guarded (FrameWord frame i)) size)) }
 {
     let mut line = Line::of(b"words");
@@ -133,8 +134,8 @@ pub fn frame_line(words: &PlainWords, class: u8, frame: u8, size: u8) -> Line
 /// The line of the words of a page.
 pub fn page_line(words: &PlainWords, class: u8, page: u8, size: u8) -> Line
     requires class { HasClass words.now class }
-    requires page { page < 32 }
-    requires size { size ≤ 64 }
+    requires page { page < most_pages }
+    requires size { size ≤ most_words }
     ensures { result ≡ words_text (Some (words_from (λ i. (words_in words.now class).guarded (PageWord page i)) size)) }
 {
     let mut line = Line::of(b"words");

@@ -2,6 +2,7 @@
 
 ghost use Rattle.std.specs.Prelude.{◌≡◌, ◌<◌, true, is_some};
 ghost use Rattle.std.specs.List.{list_any};
+ghost use Rattle.words_layout.specs.Sizes.{entry_count, most_classes, most_frames, most_pages, most_words};
 ghost use Rattle.words_layout.specs.Words.{Word, address, HomeOf, WritesOf, EntryOf, FrameWord, PageWord};
 ghost use Rattle.words_layout.specs.Limits.{IsIdentity, word_in_limits};
 ghost use Rattle.words_layout.specs.Coding.{home_of, entry_of};
@@ -79,7 +80,7 @@ fn sequencer_at(words: &PlainWords, class: u8, seg: SegId) -> u64
 /// The component in a class of the eventcount of a segment of another.
 fn component_at(words: &PlainWords, class: u8, of: u8, seg: SegId) -> u64
     requires class { HasClass words.now class }
-    requires of { of < 16 }
+    requires of { of < most_classes }
     requires seg { IsIdentity seg }
     ensures { result ≡ (words_in words.now class).component of seg }
 {
@@ -90,7 +91,7 @@ fn component_at(words: &PlainWords, class: u8, of: u8, seg: SegId) -> u64
 fn spelled_entry(words: &PlainWords, class: u8, seg: SegId, entry: u8) -> Option<Alias>
     requires class { HasClass words.now class }
     requires seg { IsIdentity seg }
-    requires entry { entry < 8 }
+    requires entry { entry < entry_count }
     ensures { result ≡ entry_of ((words_in words.now class).guarded (EntryOf seg entry)) }
 {
     entry_taken(load(words, class, entry_addr(class, seg, entry)))
@@ -99,8 +100,8 @@ fn spelled_entry(words: &PlainWords, class: u8, seg: SegId, entry: u8) -> Option
 /// A word of a frame.
 pub fn frame_word(words: &PlainWords, class: u8, frame: u8, place: u8) -> u64
     requires class { HasClass words.now class }
-    requires frame { frame < 16 }
-    requires place { place < 64 }
+    requires frame { frame < most_frames }
+    requires place { place < most_words }
     ensures { result ≡ (words_in words.now class).guarded (FrameWord frame place) }
 {
     load(words, class, frame_word_addr(class, frame, place))
@@ -109,8 +110,8 @@ pub fn frame_word(words: &PlainWords, class: u8, frame: u8, place: u8) -> u64
 /// A word of a page.
 pub fn page_word(words: &PlainWords, class: u8, page: u8, place: u8) -> u64
     requires class { HasClass words.now class }
-    requires page { page < 32 }
-    requires place { place < 64 }
+    requires page { page < most_pages }
+    requires place { place < most_words }
     ensures { result ≡ (words_in words.now class).guarded (PageWord page place) }
 {
     load(words, class, page_word_addr(class, page, place))
@@ -155,7 +156,7 @@ pub fn find_segment(machine: &Machine<PlainWords>, class: u8, seg: SegId) -> Fou
 pub fn find_entry(machine: &Machine<PlainWords>, class: u8, seg: SegId, entry: u8) -> Option<Alias>
     requires class { class < classes machine.now.shared }
     requires seg { IsIdentity seg }
-    requires entry { entry < 8 }
+    requires entry { entry < entry_count }
     ensures { result ≡ entry_in machine.now class seg entry }
 {
     class_law(machine, class);

@@ -3,6 +3,7 @@
 ghost use Rattle.std.specs.Prelude.{◌≡◌, ◌<◌};
 ghost use Rattle.words_layout.specs.Limits.{IsIdentity};
 ghost use Rattle.words_layout.specs.Named.{words_in};
+ghost use Rattle.words_layout.specs.Sizes.{entry_count, most_classes};
 ghost use Rattle.gate_parts.specs.Taken.{IsHome};
 ghost use Rattle.class_model.specs.Config.{classes};
 ghost use Rattle.class_model.specs.Report.{segment_text, words_text};
@@ -48,7 +49,7 @@ fn print_entry<H: Host>(
 ) -> Result<(), WriteFault>
     requires class { class < classes machine.now.shared }
     requires seg { IsIdentity seg }
-    requires entry { entry < 8 }
+    requires entry { entry < entry_count }
     ensures { Prints (H.ports host.old) (H.ports host.new) (alias_text entry (entry_in machine.now class seg entry)) result }
 {
     match find_entry(machine, class, seg, entry) {
@@ -120,7 +121,7 @@ fn print_mentor<H: Host>(
     mentor: u8,
 ) -> Result<(), WriteFault>
     requires class { class < classes machine.now.shared }
-    requires mentor { mentor < 16 }
+    requires mentor { mentor < most_classes }
     ensures { Prints (H.ports host.old) (H.ports host.new) (mentor_text (machine_of machine.now) class mentor) result }
 {
     for serial in 0..SERIAL_LIMIT {

@@ -3,7 +3,6 @@
 
 mod counting;
 mod laws;
-mod line;
 mod pushing;
 mod sequencers;
 mod totals;

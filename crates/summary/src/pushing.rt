@@ -9,11 +9,10 @@ ghost use Rattle.report.specs.Printing.{Prints};
 ghost use Rattle.summary.specs.Summary.{heading, totals_line, machine_totals, machine_summary};
 
 use crate::counting::class_totals;
-use crate::line::Line;
 use crate::totals::Totals;
-use host_ports::{Host, push_whole};
+use host_ports::Host;
 use machine::Machine;
-use report::WriteFault;
+use report::{Line, WriteFault, push_line};
 use words_layout::PlainWords;
 
 /// The first line.
@@ -21,7 +20,7 @@ fn heading(number: u64) -> Line
     ensures { result ≡ heading number }
 {
     let mut line = Line::of(b"large");
-    line.number(u128::from(number));
+    line.number(number);
     line.word(b"classes");
     line.word(b"8");
     line.word(b"processors");
@@ -39,27 +38,17 @@ fn totals_line(class: u8, totals: &Totals) -> Line
     ensures { result ≡ totals_line class totals.now }
 {
     let mut line = Line::of(b"class");
-    line.number(u128::from(class));
+    line.number(u64::from(class));
     line.word(b"lines");
-    line.number(totals.lines);
+    line.sum(totals.lines);
     line.word(b"ended");
-    line.number(u128::from(totals.ended));
+    line.number(totals.ended);
     line.word(b"live");
-    line.number(u128::from(totals.live));
+    line.number(totals.live);
     line.word(b"tickets");
-    line.number(totals.tickets);
+    line.sum(totals.tickets);
     line.end();
     line
-}
-
-/// Pushes a line to port 0, as one piece.
-fn push_line<H: Host>(host: &mut H, line: &Line) -> Result<(), WriteFault>
-    ensures { Prints (H.ports host.old) (H.ports host.new) line.now result }
-{
-    match push_whole(host, 0, line.as_slice()) {
-        Ok(()) => Ok(()),
-        Err(_) => Err(WriteFault),
-    }
 }
 
 /// Pushes the lines of all classes, in order.

@@ -6,6 +6,7 @@ ghost use Rattle.lists.specs.Lists.{below};
 ghost use Rattle.words_layout.specs.Limits.{IsIdentity};
 ghost use Rattle.words_layout.specs.Named.{words_in};
 ghost use Rattle.words_layout.specs.Segments.{seg};
+ghost use Rattle.words_layout.specs.Sizes.{most_classes, most_serials};
 ghost use Rattle.class_model.specs.Config.{classes};
 ghost use Rattle.class_model.specs.State.{identities};
 
@@ -27,9 +28,9 @@ fn sequencer(machine: &Machine<PlainWords>, class: u8, seg: SegId) -> u64
 /// The tickets drawn from the segments with mentors of one class.
 fn mentor_tickets(machine: &Machine<PlainWords>, class: u8, mentor: u8) -> u128
     requires class { class < classes machine.now.shared }
-    requires mentor { mentor < 16 }
+    requires mentor { mentor < most_classes }
     ensures sum { result ≡ sum_by (λ s. (words_in machine.now.words class).sequencer (seg mentor s)) (below 64) }
-    ensures most { result ≤ 64 * 18446744073709551616 }
+    ensures most { result ≤ most_serials * 18446744073709551616 }
 {
     let mut tickets = 0u128;
     for serial in 0..SERIAL_LIMIT {

@@ -2,6 +2,7 @@
 
 ghost use Rattle.std.specs.Prelude.{◌≡◌, ◌<◌, ◌≤◌, true, false};
 ghost use Rattle.words_layout.specs.Limits.{IsIdentity};
+ghost use Rattle.words_layout.specs.Sizes.{most_frames, most_pages, most_words};
 ghost use Rattle.swap_gates.specs.declared.in_body.Rest.{Rest};
 
 use gate_parts::{Body, Next, home_taken};
@@ -46,7 +47,7 @@ pub struct InBody {
     place: u8,
     /// The word that was loaded last.
     word: u64,
-    ghost in_limits: { IsIdentity known.seg × (1 ≤ known.size) × (known.size ≤ 64) × (pool ≤ 16) × (frame < 16) × (page < 32) },
+    ghost in_limits: { IsIdentity known.seg × (1 ≤ known.size) × (known.size ≤ most_words) × (pool ≤ most_frames) × (frame < most_frames) × (page < most_pages) },
     ghost finding: { rest ≡ Rest.Find → frame < pool },
     ghost zeroing: { rest ≡ Rest.Zero → (place < known.size) × (stored ≡ false) },
     ghost loading: { rest ≡ Rest.Load → (place < known.size) × (stored ≡ true) },
@@ -67,7 +68,7 @@ impl InBody {
     pub fn new(known: Known, pool: u8) -> InBody
         requires known { IsKnown known }
         requires size { 1 ≤ known.size }
-        requires pool { pool ≤ 16 }
+        requires pool { pool ≤ most_frames }
         ensures { in_whole result ≡ swap_in_body pool known }
     {
         InBody {

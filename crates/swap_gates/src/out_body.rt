@@ -3,6 +3,7 @@
 
 ghost use Rattle.std.specs.Prelude.{◌≡◌, ◌<◌, ◌≤◌, true};
 ghost use Rattle.words_layout.specs.Limits.{IsIdentity};
+ghost use Rattle.words_layout.specs.Sizes.{most_frames, most_pages, most_words};
 ghost use Rattle.swap_gates.specs.declared.out_body.Rest.{Rest};
 
 use gate_parts::{Body, Next, home_taken};
@@ -48,7 +49,7 @@ pub struct OutBody {
     place: u8,
     /// The word that was loaded last.
     word: u64,
-    ghost in_limits: { IsIdentity known.seg × (known.size ≤ 64) × (pool ≤ 32) × (frame < 16) × (page < 32) × (1 ≤ size) × (size ≤ 64) },
+    ghost in_limits: { IsIdentity known.seg × (known.size ≤ most_words) × (pool ≤ most_pages) × (frame < most_frames) × (page < most_pages) × (1 ≤ size) × (size ≤ most_words) },
     ghost finding: { rest ≡ Rest.Find → page < pool },
     ghost loading: { rest ≡ Rest.Load → place < known.size },
     ghost storing: { rest ≡ Rest.Store → place < known.size },
@@ -65,7 +66,7 @@ impl OutBody {
     /// The body for a known segment.
     pub fn new(known: Known, pool: u8) -> OutBody
         requires known { IsKnown known }
-        requires pool { pool ≤ 32 }
+        requires pool { pool ≤ most_pages }
         ensures { out_whole result ≡ swap_out_body pool known }
     {
         OutBody {

@@ -1,6 +1,7 @@
 //! Swapin: the class's turn and, within it, the segment's, in which the segment is brought into a frame.
 
 ghost use Rattle.std.specs.Prelude.{◌≡◌, ◌<◌, ◌≤◌, true};
+ghost use Rattle.words_layout.specs.Sizes.{most_classes, most_frames};
 ghost use Rattle.gate_parts.specs.InTurns.{of_class, runs};
 ghost use Rattle.swap_gates.specs.InBody.{in_left};
 
@@ -16,7 +17,7 @@ pub struct SwapIn {
     work: Work<InBody>,
     /// The reply, from the effect on.
     reply: Option<Reply>,
-    ghost limit: { class < 16 },
+    ghost limit: { class < most_classes },
     ghost class_is: { of_class class work ≡ true },
     ghost runs: { runs in_left work ≡ true },
 }
@@ -38,9 +39,9 @@ impl SwapIn {
     /// alone, gives UnknownSegno.
     #[tactic(auto, using(policy::proofs::Passed::swap_in_size))]
     pub fn start(who: &Caller, known: Option<&Known>, pool: u8) -> SwapIn
-        requires class { who.now.class < 16 }
+        requires class { who.now.class < most_classes }
         requires known { KnownTo who.now.class (option_map (λ k. k.now) known) }
-        requires pool { pool ≤ 16 }
+        requires pool { pool ≤ most_frames }
         ensures act { act_of result ≡ begins (usable (option_map (λ k. k.now) known.entry)) (swap_in_tests who.now.ring) (λ k. ClassTurn (swap_in_body pool k)) }
         ensures fresh { doing_of result ≡ Fresh }
         ensures class { result.class ≡ who.now.class }
@@ -60,7 +61,7 @@ impl SwapIn {
 
     /// The gate before its first step.
     fn new(class: u8, work: Work<InBody>) -> SwapIn
-        requires limit { class < 16 }
+        requires limit { class < most_classes }
         requires class { of_class class work ≡ true }
         requires runs { runs in_left work ≡ true }
         ensures work { result.work ≡ work }

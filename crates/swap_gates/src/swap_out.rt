@@ -1,6 +1,7 @@
 //! Swapout: the class's turn and, within it, the segment's, in which the segment is taken out to a page.
 
 ghost use Rattle.std.specs.Prelude.{◌≡◌, ◌<◌, ◌≤◌, true};
+ghost use Rattle.words_layout.specs.Sizes.{most_classes, most_pages};
 ghost use Rattle.gate_parts.specs.InTurns.{of_class, runs};
 ghost use Rattle.swap_gates.specs.OutBody.{out_left};
 
@@ -16,7 +17,7 @@ pub struct SwapOut {
     work: Work<OutBody>,
     /// The reply, from the effect on.
     reply: Option<Reply>,
-    ghost limit: { class < 16 },
+    ghost limit: { class < most_classes },
     ghost class_is: { of_class class work ≡ true },
     ghost runs: { runs out_left work ≡ true },
 }
@@ -37,9 +38,9 @@ impl SwapOut {
     /// Makes the private tests. `pool` is how many pages the class has. An empty place, or one that may be signalled
     /// alone, gives UnknownSegno.
     pub fn start(who: &Caller, known: Option<&Known>, pool: u8) -> SwapOut
-        requires class { who.now.class < 16 }
+        requires class { who.now.class < most_classes }
         requires known { KnownTo who.now.class (option_map (λ k. k.now) known) }
-        requires pool { pool ≤ 32 }
+        requires pool { pool ≤ most_pages }
         ensures act { act_of result ≡ begins (usable (option_map (λ k. k.now) known.entry)) (swap_out_tests who.now.ring) (λ k. ClassTurn (swap_out_body pool k)) }
         ensures fresh { doing_of result ≡ Fresh }
         ensures class { result.class ≡ who.now.class }
@@ -59,7 +60,7 @@ impl SwapOut {
 
     /// The gate before its first step.
     fn new(class: u8, work: Work<OutBody>) -> SwapOut
-        requires limit { class < 16 }
+        requires limit { class < most_classes }
         requires class { of_class class work ≡ true }
         requires runs { runs out_left work ≡ true }
         ensures work { result.work ≡ work }

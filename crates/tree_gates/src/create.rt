@@ -1,6 +1,7 @@
 //! Create: the class's turn, in which a segment is made in an entry of its mentor.
 
 ghost use Rattle.std.specs.Prelude.{◌≡◌, ◌<◌, true, length};
+ghost use Rattle.words_layout.specs.Sizes.{most_classes};
 ghost use Rattle.gate_parts.specs.InTurns.{of_class, runs};
 ghost use Rattle.tree_gates.specs.CreateBody.{create_left};
 
@@ -15,7 +16,7 @@ use words_layout::Op;
 pub struct Create {
     class: u8,
     work: Work<CreateBody>,
-    ghost limit: { class < 16 },
+    ghost limit: { class < most_classes },
     ghost class_is: { of_class class work ≡ true },
     ghost runs: { runs create_left work ≡ true },
 }
@@ -44,7 +45,7 @@ impl Create {
         brackets: u64,
         size: u64,
     ) -> Create
-        requires who { who.now.class < 16 }
+        requires who { who.now.class < most_classes }
         requires known { KnownTo who.now.class (option_map (λ k. k.now) known) }
         requires table { PlaceInTable table.now (option_map (λ k. k.now) known) }
         ensures act { act_of result ≡ begins (usable (option_map (λ k. k.now) known.entry)) (create_tests table.now who.now.ring entry class brackets size)
@@ -71,7 +72,7 @@ impl Create {
 
     /// The gate before its first step.
     fn new(class: u8, work: Work<CreateBody>) -> Create
-        requires limit { class < 16 }
+        requires limit { class < most_classes }
         requires class { of_class class work ≡ true }
         requires runs { runs create_left work ≡ true }
         ensures work { result.work ≡ work }

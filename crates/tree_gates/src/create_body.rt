@@ -2,6 +2,7 @@
 
 ghost use Rattle.std.specs.Prelude.{◌≡◌, ◌<◌, ◌≤◌, true};
 ghost use Rattle.words_layout.specs.Limits.{IsIdentity};
+ghost use Rattle.words_layout.specs.Sizes.{entry_count, most_classes, most_serials, most_words};
 ghost use Rattle.tree_gates.specs.declared.create_body.Rest.{Rest};
 
 use gate_parts::{Body, Next, entry_taken, home_taken};
@@ -41,9 +42,9 @@ pub struct CreateBody {
     rest: Rest,
     /// The serial of the new segment, once it was loaded.
     serial: u64,
-    ghost in_limits: { IsIdentity seg × (entry < 8) × (class < 16) × (1 ≤ size) × (size ≤ 64) },
-    ghost serial_set: { rest ≡ Rest.SetSerial → serial < 64 },
-    ghost serial_used: { rest ≡ Rest.SetEntry → serial < 64 },
+    ghost in_limits: { IsIdentity seg × (entry < entry_count) × (class < most_classes) × (1 ≤ size) × (size ≤ most_words) },
+    ghost serial_set: { rest ≡ Rest.SetSerial → serial < most_serials },
+    ghost serial_used: { rest ≡ Rest.SetEntry → serial < most_serials },
 }
 
 impl CreateBody {
@@ -56,10 +57,10 @@ impl CreateBody {
     /// The body that makes a segment of this class, brackets and size in an entry of a mentor.
     pub fn new(mentor: SegId, entry: u8, class: u8, brackets: Brackets, size: u8) -> CreateBody
         requires mentor { IsIdentity mentor }
-        requires entry { entry < 8 }
-        requires class { class < 16 }
+        requires entry { entry < entry_count }
+        requires class { class < most_classes }
         requires some { 1 ≤ size }
-        requires size { size ≤ 64 }
+        requires size { size ≤ most_words }
         ensures { create_whole result ≡ create_body mentor entry class brackets size }
     {
         CreateBody {
@@ -76,7 +77,7 @@ impl CreateBody {
     /// The new segment's entry.
     #[tactic(auto, using(crate::proofs::Created::alias_spelled))]
     fn alias(&self) -> Alias
-        requires { self.now.serial < 64 }
+        requires { self.now.serial < most_serials }
         ensures alias { result ≡ new_alias self.now.class self.now.brackets self.now.size self.now.serial }
         ensures spelled { alias_in_range result ≡ true }
     {

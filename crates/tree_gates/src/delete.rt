@@ -1,6 +1,7 @@
 //! Delete: the class's turn and, within it, the turn of a child of the caller's class, in which the child is deleted.
 
 ghost use Rattle.std.specs.Prelude.{◌≡◌, ◌<◌, true};
+ghost use Rattle.words_layout.specs.Sizes.{most_classes};
 ghost use Rattle.gate_parts.specs.InTurns.{of_class, runs};
 ghost use Rattle.tree_gates.specs.DeleteBody.{delete_left};
 
@@ -16,7 +17,7 @@ pub struct Delete {
     work: Work<DeleteBody>,
     /// The reply, from the effect on.
     reply: Option<Reply>,
-    ghost limit: { class < 16 },
+    ghost limit: { class < most_classes },
     ghost class_is: { of_class class work ≡ true },
     ghost runs: { runs delete_left work ≡ true },
 }
@@ -36,7 +37,7 @@ impl Delete {
     /// Begins it.
     #[tactic(auto, using(policy::proofs::Passed::usable_known, crate::proofs::Begun::usable_within, policy::proofs::Passed::delete_entry))]
     pub fn start(who: &Caller, known: Option<&Known>, entry: u64) -> Delete
-        requires who { who.now.class < 16 }
+        requires who { who.now.class < most_classes }
         requires known { KnownTo who.now.class (option_map (λ k. k.now) known) }
         ensures act { act_of result ≡ begins (usable (option_map (λ k. k.now) known.entry)) (delete_tests who.now.ring entry) (delete_by who.now.class entry) }
         ensures fresh { doing_of result ≡ Fresh }
@@ -57,7 +58,7 @@ impl Delete {
 
     /// The gate before its first step.
     fn new(class: u8, work: Work<DeleteBody>) -> Delete
-        requires limit { class < 16 }
+        requires limit { class < most_classes }
         requires class { of_class class work ≡ true }
         requires runs { runs delete_left work ≡ true }
         ensures work { result.work ≡ work }

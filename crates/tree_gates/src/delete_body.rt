@@ -3,6 +3,7 @@
 
 ghost use Rattle.std.specs.Prelude.{◌≡◌, ◌<◌, true};
 ghost use Rattle.words_layout.specs.Limits.{IsIdentity};
+ghost use Rattle.words_layout.specs.Sizes.{entry_count, most_classes, most_frames, most_pages};
 ghost use Rattle.tree_gates.specs.declared.delete_body.Rest.{Rest};
 
 use gate_parts::{Body, Next, entry_taken, home_taken};
@@ -53,7 +54,7 @@ pub struct DeleteBody {
     /// Whether it has a page, and which.
     paged: bool,
     page: u8,
-    ghost in_limits: { (class < 16) × IsIdentity mentor × (entry < 8) × IsIdentity child × (frame < 16) × (page < 32) },
+    ghost in_limits: { (class < most_classes) × IsIdentity mentor × (entry < entry_count) × IsIdentity child × (frame < most_frames) × (page < most_pages) },
     ghost checking: { rest ≡ Rest.Check → place < 8 },
 }
 
@@ -64,9 +65,9 @@ impl DeleteBody {
 
     /// The body that deletes the segment in an entry of a mentor, for a caller of this class.
     pub fn new(class: u8, mentor: SegId, entry: u8) -> DeleteBody
-        requires class { class < 16 }
+        requires class { class < most_classes }
         requires mentor { IsIdentity mentor }
-        requires entry { entry < 8 }
+        requires entry { entry < entry_count }
         ensures { delete_whole result ≡ delete_body class mentor entry }
     {
         DeleteBody {

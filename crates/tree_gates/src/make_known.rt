@@ -4,6 +4,7 @@ ghost use Rattle.std.specs.Prelude.{◌≡◌, ◌<◌, Some, length};
 ghost use Rattle.words_layout.specs.Limits.{IsIdentity};
 ghost use Rattle.turns.specs.Parts.{look_in_body};
 ghost use Rattle.turns.specs.declared.guard.Guard.{Guard};
+ghost use Rattle.words_layout.specs.Sizes.{entry_count, most_classes};
 ghost use Rattle.words_layout.specs.declared.coding.Alias.{Alias};
 ghost use Rattle.tree_gates.specs.MakeKnownRest.{loads, IsEntry};
 ghost use Rattle.tree_gates.specs.declared.make_known.Rest.{Rest};
@@ -46,7 +47,7 @@ pub struct MakeKnown {
     /// The entry that was made known.
     found: Option<Alias>,
     ghost guard_is: { look.guard ≡ Guard.Class mentor.class },
-    ghost in_limits: { (class < 16) × (mentor.class < 16) × IsIdentity mentor.seg × (entry < 8) },
+    ghost in_limits: { (class < most_classes) × (mentor.class < most_classes) × IsIdentity mentor.seg × (entry < entry_count) },
     ghost in_body: { look_in_body look.part ≡ loads rest },
     ghost fits: { (a : Alias) → rest ≡ Rest.Learns a → IsEntry a },
     ghost found_fits: { (a : Alias) → found ≡ Some a → IsEntry a },
@@ -77,7 +78,7 @@ impl MakeKnown {
         mode: u64,
         full: bool,
     ) -> MakeKnown
-        requires who { who.now.class < 16 }
+        requires who { who.now.class < most_classes }
         requires known { KnownTo who.now.class (option_map (λ k. k.now) known) }
         ensures act { (table : List ClassEntry) → act_of table result ≡ begins (usable (option_map (λ k. k.now) known.entry)) (make_known_tests who.now.ring entry mode full)
             (make_known_by table who.now.class who.now.ring entry mode) }
@@ -95,7 +96,7 @@ impl MakeKnown {
     /// Begins it with a known segment that may be used.
     #[tactic(auto, using(policy::proofs::Passed::make_known_entry, policy::proofs::Passed::make_known_mode))]
     fn begun(who: &Caller, known: &Known, entry: u64, mode: u64, full: bool) -> MakeKnown
-        requires who { who.now.class < 16 }
+        requires who { who.now.class < most_classes }
         requires known { IsKnown known.now }
         ensures act { (table : List ClassEntry) → act_of table result ≡ unless_broken (first_broken (make_known_tests who.now.ring entry mode full known.now))
             (make_known_by table who.now.class who.now.ring entry mode known.now) }
@@ -122,7 +123,7 @@ impl MakeKnown {
 
     /// Refused by a private test.
     fn refused(who: &Caller, mentor: Known, rule: Rule) -> MakeKnown
-        requires who { who.now.class < 16 }
+        requires who { who.now.class < most_classes }
         requires mentor { IsKnown mentor }
         ensures act { (table : List ClassEntry) → act_of table result ≡ refusing (Refused rule) }
         ensures fresh { (table : List ClassEntry) → doing_of table result ≡ Fresh }

@@ -2,6 +2,7 @@
 
 ghost use Rattle.std.specs.Prelude.{◌<◌};
 ghost use Rattle.words_layout.specs.Limits.{IsIdentity};
+ghost use Rattle.words_layout.specs.Sizes.{most_classes};
 
 use crate::guard::Guard;
 use crate::turn::{Turn, TurnPart, TurnStep};
@@ -54,7 +55,7 @@ pub struct NestedTurn {
     class: u8,
     seg: SegId,
     part: NestedPart,
-    ghost in_limits: { (class < 16) × IsIdentity seg },
+    ghost in_limits: { (class < most_classes) × IsIdentity seg },
 }
 
 impl NestedTurn {
@@ -65,7 +66,7 @@ impl NestedTurn {
 
     /// The turns of a class that are at the first part.
     pub fn new(class: u8) -> NestedTurn
-        requires { class < 16 }
+        requires { class < most_classes }
         ensures class { result.class ≡ class }
         ensures part { result.part ≡ nested_first }
     {

@@ -3,7 +3,7 @@
 //! the components of an eventcount alone stand each among the words of the signalling class.
 
 ghost use Rattle.std.specs.Prelude.{◌≡◌, ◌<◌, ◌+◌, ◌*◌};
-ghost use Rattle.words_layout.specs.Sizes.{class_words, most_classes, most_frames};
+ghost use Rattle.words_layout.specs.Sizes.{class_words, entry_count, most_classes, most_frames, most_pages, most_words};
 ghost use Rattle.words_layout.specs.Limits.{IsIdentity};
 ghost use Rattle.words_layout.specs.Words.{address, class_of, OfClass, OfSegment, Started, Tickets, Finished, Places, ComponentOf, SequencerOf, Guarded, NextSerial, HomeOf, WritesOf, EntryOf, FrameTenant, FrameWord, PageTenant, PageWord};
 
@@ -179,7 +179,7 @@ pub fn seg_finished_addr(class: u8, seg: SegId) -> Addr
 pub fn entry_addr(class: u8, seg: SegId, entry: u8) -> Addr
     requires class { class < most_classes }
     requires seg { IsIdentity seg }
-    requires entry { entry < 8 }
+    requires entry { entry < entry_count }
     ensures { result.0 ≡ address class (Guarded (EntryOf seg entry)) }
 {
     at_segment(class, seg, ENTRIES + entry as u32)
@@ -198,7 +198,7 @@ pub fn frame_tenant_addr(class: u8, frame: u8) -> Addr
 pub fn frame_word_addr(class: u8, frame: u8, place: u8) -> Addr
     requires class { class < most_classes }
     requires frame { frame < most_frames }
-    requires place { place < 64 }
+    requires place { place < most_words }
     ensures { result.0 ≡ address class (Guarded (FrameWord frame place)) }
 {
     at_offset(
@@ -210,7 +210,7 @@ pub fn frame_word_addr(class: u8, frame: u8, place: u8) -> Addr
 /// The tenant of a page of the class: 0 for none, else the number of its segment plus one.
 pub fn page_tenant_addr(class: u8, page: u8) -> Addr
     requires class { class < most_classes }
-    requires page { page < 32 }
+    requires page { page < most_pages }
     ensures { result.0 ≡ address class (Guarded (PageTenant page)) }
 {
     at_offset(class, PAGES + FRAME_WORDS * page as u32)
@@ -219,8 +219,8 @@ pub fn page_tenant_addr(class: u8, page: u8) -> Addr
 /// A word of a page of the class.
 pub fn page_word_addr(class: u8, page: u8, place: u8) -> Addr
     requires class { class < most_classes }
-    requires page { page < 32 }
-    requires place { place < 64 }
+    requires page { page < most_pages }
+    requires place { place < most_words }
     ensures { result.0 ≡ address class (Guarded (PageWord page place)) }
 {
     at_offset(class, PAGES + FRAME_WORDS * page as u32 + 1 + place as u32)
