@@ -166,64 +166,47 @@ not_leaving (InnerThird within u t body) h = refl
 not_leaving (InnerBody within u t rest) h = refl
 not_leaving (Leaving t) h = absurd h
 
-module _ (act : Act Outcome) (x : Doing Outcome) (answer : ℕ) where
-  module _ (kept now : Option Reply) (outcome : Answer) (h : IsNesting x kept)
-      (answered : outcome ≡ answers (step_told act x answer) kept) (keeps : now ≡ reply_kept (step_told act x answer) kept) where
-    -- a turn in which one nests steps as it is told
-    pub nesting_stepped : (p after : Process) (step : Step) → after ≡ replied p (effect_reply kept outcome now) → step ≡ turn_step kept outcome now →
-        Stepped (doing_told x answer) p after step
-    nesting_stepped p after step settled same =
-        let begun = begun_told act x answer (Unit {0}) h.0 in
-        let told = doing_told x answer in
-        let base : TurnStepped told p kept = stepped (Unit {0}) p kept (is_leaving x) told.ending told.takes told.doing h.1 (turning_told IsReply (Unit {0}) x answer h.0) in
-        rw (settled, same, answered, keeps, begun) base
+-- the step of a turn does what it was told, the instruction is then as far as it was told, and what is kept is in order while the turn goes on
+pub record Turned (x : Doing Outcome) (answer : ℕ) (before after : Process) (step : Step) (next : Doing Outcome) (Keeps : Type 0) : Type 0 where
+  pub told : Stepped (doing_told x answer) before after step
+  pub doing : next ≡ (doing_told x answer).doing
+  pub goes : step.over ≡ false → Keeps
 
-    -- and keeps what it needs
-    pub nesting_goes : (step : Step) (next : Doing Outcome) → step ≡ turn_step kept outcome now → next ≡ (step_told act x answer).doing → step.over ≡ false → IsNesting next now
-    nesting_goes step next same goes on =
-        let begun = begun_told act x answer (Unit {0}) h.0 in
-        let told = doing_told x answer in
-        let over : is_done outcome ≡ false = sym (ap (λ (s : Step). s.over) same) ∙ on in
-        let base = kept_on (Unit {0}) kept (is_leaving x) told.ending told.takes told.doing h.1 (turning_told IsReply (Unit {0}) x answer h.0)
-        (sym (ap is_done (answered ∙ ap (λ (t : Told Outcome). answers t kept) begun)) ∙ over) in
-        rw (goes, keeps, begun) base
+turned_so : (Nests : Type 0) (x : Doing Outcome) (answer : ℕ) (p : Process) (kept : Option Reply) → IsTurning IsReply Nests x → is_some kept ≡ is_leaving x →
+    let told = doing_told x answer in let now = reply_kept told kept in
+    Turned x answer p (replied p (effect_reply kept (answers told kept) now)) (turn_step kept (answers told kept) now) told.doing (IsTurning IsReply Nests told.doing × (is_some now ≡ is_leaving told.doing))
+turned_so Nests x answer p kept h e =
+    let told = doing_told x answer in
+    let is = turning_told IsReply Nests x answer h in
+    record {
+      told = stepped Nests p kept (is_leaving x) told.ending told.takes told.doing e is;
+      doing = refl;
+      goes = kept_on Nests kept (is_leaving x) told.ending told.takes told.doing e is;
+    }
 
-  -- likewise, where what was kept was read before and after the step
-  module _ (reply later kept now : Option Reply) (outcome : Answer) (was : kept ≡ reply) (becomes : now ≡ later) (h : IsNesting x reply)
-      (answered : outcome ≡ answers (step_told act x answer) reply) (keeps : later ≡ reply_kept (step_told act x answer) reply) where
-    pub held_stepped : (p after : Process) (step : Step) → after ≡ replied p (effect_reply kept outcome now) → step ≡ turn_step kept outcome now →
-        Stepped (doing_told x answer) p after step
-    held_stepped p after step settled same =
-        nesting_stepped reply later outcome h answered keeps p after step (rw (was, becomes) at settled) (rw (was, becomes) at same)
+module _ (act : Act Outcome) (x : Doing Outcome) (answer : ℕ) (p : Process) where
+  turned : {outcome : Answer} {next : Doing Outcome} {after : Process} {step : Step} (Nests : Type 0) (kept now : Option Reply) → IsTurning IsReply Nests x → is_some kept ≡ is_leaving x →
+      outcome ≡ answers (step_told act x answer) kept → now ≡ reply_kept (step_told act x answer) kept → next ≡ (step_told act x answer).doing →
+      after ≡ replied p (effect_reply kept outcome now) → step ≡ turn_step kept outcome now →
+      Turned x answer p after step next (IsTurning IsReply Nests next × (is_some now ≡ is_leaving next))
+  turned Nests kept now h e answered keeps goes settled same = rw (settled, same, answered, keeps, goes, begun_told act x answer Nests h) (turned_so Nests x answer p kept h e)
 
-    pub held_goes : (step : Step) (next : Doing Outcome) → step ≡ turn_step kept outcome now → next ≡ (step_told act x answer).doing → step.over ≡ false → IsNesting next later
-    held_goes step next same goes on = nesting_goes reply later outcome h answered keeps step next (rw (was, becomes) at same) goes on
+  -- a turn in which one may nest, where what is kept was read before and after the step
+  pub nesting_turned : {kept was now later : Option Reply} {outcome : Answer} {next : Doing Outcome} {after : Process} {step : Step} → IsNesting x was → kept ≡ was → now ≡ later →
+      outcome ≡ answers (step_told act x answer) was → later ≡ reply_kept (step_told act x answer) was → next ≡ (step_told act x answer).doing →
+      after ≡ replied p (effect_reply kept outcome now) → step ≡ turn_step kept outcome now → Turned x answer p after step next (IsNesting next later)
+  nesting_turned {was = was} {later = later} h read reread answered keeps goes settled same =
+      turned (Unit {0}) was later h.0 h.1 answered keeps goes (rw (read, reread) at settled) (rw (read, reread) at same)
 
-  module _ (outcome : Answer) (h : IsTurning IsReply ⊥ x) (answered : outcome ≡ answers (step_told act x answer) None) where
-    keeps_none : None ≡ reply_kept (step_told act x answer) None
-    keeps_none =
-        let told = doing_told x answer in
-        rw (begun_told act x answer ⊥ h) (sym (alone (is_leaving x) told.ending told.takes told.doing (turning_told IsReply ⊥ x answer h)))
-
-    -- a turn that stands alone steps as it is told
-    pub alone_stepped : (p after : Process) (step : Step) → after ≡ replied p (effect_reply None outcome None) → step ≡ turn_step None outcome None →
-        Stepped (doing_told x answer) p after step
-    alone_stepped p after step settled same =
-        let begun = begun_told act x answer ⊥ h in
-        let told = doing_told x answer in
-        let none : reply_kept told None ≡ None = alone (is_leaving x) told.ending told.takes told.doing (turning_told IsReply ⊥ x answer h) in
-        let base : TurnStepped told p None = stepped ⊥ p None (is_leaving x) told.ending told.takes told.doing (sym (not_leaving x h)) (turning_told IsReply ⊥ x answer h) in
-        rw (settled, same, answered, begun) (subst (λ (o : Option Reply). Stepped told p (replied p (effect_reply None (answers told None) o)) (turn_step None (answers told None) o)) none base)
-
-    -- and keeps what it needs
-    pub alone_goes : (step : Step) (next : Doing Outcome) → step ≡ turn_step None outcome None → next ≡ (step_told act x answer).doing → step.over ≡ false → IsTurning IsReply ⊥ next
-    alone_goes step next same goes on =
-        let begun = begun_told act x answer ⊥ h in
-        let told = doing_told x answer in
-        let over : is_done outcome ≡ false = sym (ap (λ (s : Step). s.over) same) ∙ on in
-        let base = kept_on ⊥ None (is_leaving x) told.ending told.takes told.doing (sym (not_leaving x h)) (turning_told IsReply ⊥ x answer h)
-        (sym (ap is_done (answered ∙ ap (λ (t : Told Outcome). answers t None) begun)) ∙ over) in
-        rw (goes, begun) base.0
+  -- a turn in which none nests: no reply is kept
+  pub alone_turned : {outcome : Answer} {next : Doing Outcome} {after : Process} {step : Step} → IsTurning IsReply ⊥ x →
+      outcome ≡ answers (step_told act x answer) None → next ≡ (step_told act x answer).doing →
+      after ≡ replied p (effect_reply None outcome None) → step ≡ turn_step None outcome None → Turned x answer p after step next (IsTurning IsReply ⊥ next)
+  alone_turned h answered goes settled same =
+      let told = doing_told x answer in
+      let none : None ≡ reply_kept (step_told act x answer) None = rw (begun_told act x answer ⊥ h) (sym (alone (is_leaving x) told.ending told.takes told.doing (turning_told IsReply ⊥ x answer h))) in
+      let turn = turned ⊥ None None h (sym (not_leaving x h)) answered none goes settled same in
+      record { told = turn.told; doing = turn.doing; goes = λ on. (turn.goes on).0 }
 
 -- ---- the step of a look
 

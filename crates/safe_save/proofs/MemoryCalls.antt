@@ -1,5 +1,5 @@
 -- What the calls of a disk in memory leave.
-use Rattle.std.proofs.Common.{◌≡◌, ◌⊎◌, inl, inr, ℕ, ◌+◌, ◌<◌, ◌≤◌, List, [], ◌∷◌, ◌++◌, All, Bool, true, false, length, replicate, take, drop, refl, sym, ◌∙◌, ap, subst, arith, length-append}
+use Rattle.std.proofs.Common.{◌≡◌, ◌↔◌, ◌⊎◌, inl, inr, ℕ, ◌+◌, ◌<◌, ◌≤◌, List, [], ◌∷◌, ◌++◌, All, Bool, true, false, length, replicate, take, drop, refl, sym, ◌∙◌, ap, subst, arith, length-append}
 use Rattle.std.proofs.lemmas.List.{take-append-le, take_all, take_at, length-replicate}
 use Rattle.std.proofs.lemmas.List.Elements.{All-push}
 use Rattle.std.proofs.lemmas.Bool.{cases_lt}
@@ -7,7 +7,7 @@ use Rattle.std.specs.Prelude.{nat_lt, if◌then◌else◌}
 use Rattle.safe_save.specs.declared.fill.Fill.{Fill}
 use Rattle.safe_save.specs.declared.fill.Fill.TheVariants.{Zeros, Ones, Written}
 use Rattle.safe_save.specs.Disk.{written, DiffersIn, Elapses}
-use Rattle.safe_save.specs.Memory.{Call, Wrote, Synced, Idle, State, Log, Memory, fresh, after_call, after_calls, filled, image_of, IsLeft, IsWithin, IsWhole, MayLeave, LeftSince, state_of, state_at, noted, noted_if_room, refused, done}
+use Rattle.safe_save.specs.Memory.{Call, Idle, State, Log, Memory, fresh, after_call, after_calls, filled, image_of, IsLeft, IsWithin, IsWhole, MayLeave, LeftSince, state_of, state_at, noted, noted_if_room, next_call, next_fault, room_after, refused, done, IsRefusal}
 use Rattle.safe_save.specs.MemoryLaws.{AreWithin, IsSound, sound}
 use Rattle.safe_save.specs.Writing.{written_differs}
 use Rattle.safe_save.proofs.Drawing.{after_append}
@@ -62,13 +62,6 @@ drawn_left m count fill image whole is =
     let s = state_at m count in
     subst (λ (xs : List ℕ). IsLeft s.ranges s.stood xs) (sym is) (image_left fill s (sound m count whole))
 
--- a call that succeeded
-pub done_state : (m : Memory) (call : Call) → state_of (done m call) ≡ after_call call (state_of m)
-done_state m call = after_append m.log.calls (call ∷ []) (fresh m.opening)
-
-pub done_whole : (m : Memory) (call : Call) → IsWithin call → IsWhole m → IsWhole (done m call)
-done_whole m call one whole = record { size = whole.size; within = All-push IsWithin m.log.calls call whole.within one }
-
 -- Time goes on by a call more of the record, or by none.
 left_at : Memory → ℕ → List ℕ → Type 0
 left_at m k c = let s = state_at m k in IsLeft s.ranges s.stood c
@@ -99,8 +92,31 @@ time_same m n opening same = record {
       (subst (λ (cs : List Call). (k : ℕ) × (t ≤ k) × (k ≤ length cs) × (let s = after_calls (take k cs) (fresh m.opening) in IsLeft s.ranges s.stood c)) (sym same) left);
 }
 
-pub done_time : (m : Memory) (call : Call) → Elapses (length m.log.calls) (length (done m call).log.calls) (LeftSince m) (LeftSince (done m call)) (MayLeave (done m call))
-done_time m call = time_more m (done m call) call refl refl
+-- a crash leaves what the state says
+left_by : (m : Memory) (s : State) → state_of m ≡ s → (c : List ℕ) → MayLeave m c ↔ IsLeft s.ranges s.stood c
+left_by m s is c = subst (λ (t : State). MayLeave m c ↔ IsLeft t.ranges t.stood c) is (λ left. left, λ left. left)
+
+-- the disk after a call that succeeded
+pub record IsDone (call : Call) (before after : Memory) : Type 0 where
+  pub honest : IsWhole before ↔ IsWhole after
+  pub seen : (state_of after).bytes ≡ (after_call call (state_of before)).bytes
+  pub images : (c : List ℕ) → let s = after_call call (state_of before) in MayLeave after c ↔ IsLeft s.ranges s.stood c
+  pub time : Elapses (length before.log.calls) (length after.log.calls) (LeftSince before) (LeftSince after) (MayLeave after)
+
+done_is : (m : Memory) (call : Call) → IsWithin call → IsWhole m → IsDone call m (done m call)
+done_is m call within whole =
+    let state : state_of (done m call) ≡ after_call call (state_of m) = after_append m.log.calls (call ∷ []) (fresh m.opening) in
+    record {
+      honest = (λ h. record { size = whole.size; within = All-push IsWithin m.log.calls call whole.within within }, λ h. whole);
+      seen = ap (λ (s : State). s.bytes) state;
+      images = left_by (done m call) (after_call call (state_of m)) state;
+      time = time_more m (done m call) call refl refl;
+    }
+
+-- it is counted at its begin, and noted at its end
+pub is_done : {m mid n : Memory} (call : Call) → IsWithin call → IsWhole m → mid ≡ record m { calls = next_call m.calls } →
+    n ≡ record mid { log = record (noted mid.log call) { room = room_after call mid.log.room } } → IsDone call m n
+is_done {m} call within whole counted noted_so = rw (noted_so, counted) (done_is m call within whole)
 
 -- a call that failed: it is noted or not
 idle_if_room : (log : Log) → ((noted_if_room log Idle).calls ≡ log.calls ++ Idle ∷ []) ⊎ ((noted_if_room log Idle).calls ≡ log.calls)
@@ -110,51 +126,39 @@ idle_if_room log = by_room (nat_lt (length log.calls) log.most)
     by_room true = inl refl
     by_room false = inr refl
 
-pub refused_state : (m : Memory) → state_of (refused m) ≡ state_of m
+refused_state : (m : Memory) → state_of (refused m) ≡ state_of m
 refused_state m = by_room (idle_if_room m.log)
   where
     by_room : ((noted_if_room m.log Idle).calls ≡ m.log.calls ++ Idle ∷ []) ⊎ ((noted_if_room m.log Idle).calls ≡ m.log.calls) → state_of (refused m) ≡ state_of m
     by_room (inl more) = ap (λ (cs : List Call). after_calls cs (fresh m.opening)) more ∙ after_append m.log.calls (Idle ∷ []) (fresh m.opening)
     by_room (inr same) = ap (λ (cs : List Call). after_calls cs (fresh m.opening)) same
 
-pub refused_whole : (m : Memory) → IsWhole m → IsWhole (refused m)
+refused_whole : (m : Memory) → IsWhole m → IsWhole (refused m)
 refused_whole m whole = record { size = whole.size; within = by_room (idle_if_room m.log) }
   where
     by_room : ((noted_if_room m.log Idle).calls ≡ m.log.calls ++ Idle ∷ []) ⊎ ((noted_if_room m.log Idle).calls ≡ m.log.calls) → All IsWithin (refused m).log.calls
     by_room (inl more) = within_more m.log.calls (noted_if_room m.log Idle).calls Idle more whole.within tt
     by_room (inr same) = subst (All IsWithin) (sym same) whole.within
 
-pub refused_time : (m : Memory) → Elapses (length m.log.calls) (length (refused m).log.calls) (LeftSince m) (LeftSince (refused m)) (MayLeave (refused m))
+refused_time : (m : Memory) → Elapses (length m.log.calls) (length (refused m).log.calls) (LeftSince m) (LeftSince (refused m)) (MayLeave (refused m))
 refused_time m = by_room (idle_if_room m.log)
   where
     by_room : ((noted_if_room m.log Idle).calls ≡ m.log.calls ++ Idle ∷ []) ⊎ ((noted_if_room m.log Idle).calls ≡ m.log.calls) → Elapses (length m.log.calls) (length (refused m).log.calls) (LeftSince m) (LeftSince (refused m)) (MayLeave (refused m))
     by_room (inl more) = time_more m (refused m) Idle refl more
     by_room (inr same) = time_same m (refused m) refl same
 
--- the images that a write leaves
-pub write_images : (m : Memory) (at : ℕ) (bytes : List ℕ) (c : List ℕ) → MayLeave (done m (Wrote at bytes)) c → (d : List ℕ) × MayLeave m d × DiffersIn at (length bytes) d c
-write_images m at bytes c left = subst (λ (s : State). IsLeft s.ranges s.stood c) (done_state m (Wrote at bytes)) left
+-- the disk after it
+refused_is : (m : Memory) → IsWhole m → IsRefusal m (refused m)
+refused_is m whole =
+    let state = refused_state m in
+    record {
+      leaves = refl;
+      honest = (λ h. refused_whole m whole, λ h. whole);
+      seen = ap (λ (s : State). s.bytes) state;
+      images = left_by (refused m) (state_of m) state;
+      time = refused_time m;
+    }
 
-pub write_any : (m : Memory) (at : ℕ) (bytes : List ℕ) (d c : List ℕ) → MayLeave m d → DiffersIn at (length bytes) d c → MayLeave (done m (Wrote at bytes)) c
-write_any m at bytes d c left differs = subst (λ (s : State). IsLeft s.ranges s.stood c) (sym (done_state m (Wrote at bytes))) (d, left, differs)
-
--- a failed call leaves the images
-pub refused_left : (m : Memory) (c : List ℕ) → MayLeave (refused m) c → MayLeave m c
-refused_left m c left = subst (λ (s : State). IsLeft s.ranges s.stood c) (refused_state m) left
-
-pub refused_keeps : (m : Memory) (c : List ℕ) → MayLeave m c → MayLeave (refused m) c
-refused_keeps m c left = subst (λ (s : State). IsLeft s.ranges s.stood c) (sym (refused_state m)) left
-
--- and so does a read
-pub idle_left : (m : Memory) (c : List ℕ) → MayLeave (done m Idle) c → MayLeave m c
-idle_left m c left = subst (λ (s : State). IsLeft s.ranges s.stood c) (done_state m Idle) left
-
-pub idle_keeps : (m : Memory) (c : List ℕ) → MayLeave m c → MayLeave (done m Idle) c
-idle_keeps m c left = subst (λ (s : State). IsLeft s.ranges s.stood c) (sym (done_state m Idle)) left
-
--- after a sync a crash leaves what a read gives
-pub synced_left : (m : Memory) (c : List ℕ) → MayLeave (done m Synced) c → c ≡ (state_of m).bytes
-synced_left m c left = subst (λ (s : State). IsLeft s.ranges s.stood c) (done_state m Synced) left
-
-pub synced_keeps : (m : Memory) (c : List ℕ) → c ≡ (state_of m).bytes → MayLeave (done m Synced) c
-synced_keeps m c is = subst (λ (s : State). IsLeft s.ranges s.stood c) (sym (done_state m Synced)) is
+pub is_refusal : {m mid n : Memory} → IsWhole m → mid ≡ record m { calls = next_call m.calls } →
+    n ≡ record mid { log = noted_if_room mid.log Idle; faults = next_fault mid.faults } → IsRefusal m n
+is_refusal {m} whole counted noted_so = rw (noted_so, counted) (refused_is m whole)

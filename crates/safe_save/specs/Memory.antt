@@ -3,7 +3,7 @@ use Rattle.std.specs.Prelude.{◌≡◌, ◌↔◌, ◌⊎◌, All, ℕ, ◌+◌
 use Rattle.host_ports.specs.declared.host.Failed.{Failed}
 use Rattle.safe_save.specs.declared.fill.Fill.{Fill}
 use Rattle.safe_save.specs.declared.fill.Fill.TheVariants.{Zeros, Ones, Written}
-use Rattle.safe_save.specs.Disk.{written, DiffersIn}
+use Rattle.safe_save.specs.Disk.{written, DiffersIn, SameImages, Elapses}
 
 -- what a call did: it wrote bytes from a place on, it was a sync, or it changed nothing
 pub data Call : Type 0 where
@@ -136,6 +136,14 @@ CallFails m count = Contains m.failing (next_call m.calls) ⊎ (m.log.most ≤ l
 -- a failed call is counted, and changes nothing
 abbrev pub refused : Memory → Memory
 refused m = record m { log = noted_if_room m.log Idle; calls = next_call m.calls; faults = next_fault m.faults }
+
+-- the disk after a call that failed: a read gives the same as before, and a crash leaves the same as before
+pub record IsRefusal (before after : Memory) : Type 0 where
+  pub leaves : after ≡ refused before
+  pub honest : IsWhole before ↔ IsWhole after
+  pub seen : (state_of after).bytes ≡ (state_of before).bytes
+  pub images : SameImages (MayLeave before) (MayLeave after)
+  pub time : Elapses (length before.log.calls) (length after.log.calls) (LeftSince before) (LeftSince after) (MayLeave after)
 
 -- how many bytes a call writes
 abbrev pub size_of : Call → ℕ

@@ -1,10 +1,10 @@
 //! A disk in memory, for tests.
 
-ghost use Rattle.std.specs.Prelude.{◌≡◌, ◌↔◌, ◌⊎◌, ℕ, ◌+◌, ◌-◌, ◌≤◌, ◌<◌, [], IsTrue, Contains, All, vec_len, length, take, IfOk, OnOk, OnErr};
+ghost use Rattle.std.specs.Prelude.{◌≡◌, ◌↔◌, ◌⊎◌, ℕ, ◌+◌, ◌-◌, ◌≤◌, ◌<◌, [], IsTrue, Contains, All, vec_len, length, take, IfOk, IsErr, OnOk, OnErr};
 ghost use Rattle.host_ports.specs.Ports.{HasCause};
 ghost use Rattle.lists.specs.Lists.{part_of};
 ghost use Rattle.safe_save.specs.Disk.{written, DiffersIn, Only, SameImages, OnlyBytesIn, AnyBytesIn, Elapses};
-ghost use Rattle.safe_save.specs.Memory.{Memory, IsWithin, IsWhole, MayLeave, LeftSince, IsLeft, state_of, state_at, image_of, CallFails, DoesExactly, done, refused, noted, noted_if_room, next_call, next_fault};
+ghost use Rattle.safe_save.specs.Memory.{Memory, IsWithin, IsWhole, MayLeave, LeftSince, IsLeft, IsRefusal, state_of, state_at, image_of, CallFails, DoesExactly, done, refused, noted, noted_if_room, next_call, next_fault};
 ghost use Rattle.safe_save.specs.Memory as memory;
 ghost use Rattle.safe_save.specs.MemoryLaws.{size_law, shown_law, counts_law, only_law};
 
@@ -122,6 +122,21 @@ impl MemoryDisk {
         }
     }
 
+    /// Begins a call that writes so many bytes. One that fails is counted, and changes nothing else.
+    fn begin(&mut self, count: usize) -> Result<(), Failed>
+        ensures whole { IsWhole self.old }
+        ensures fails { IsErr result ↔ CallFails self.old count }
+        ensures begun { OnOk result (self.new ≡ record self.old { calls = next_call self.old.calls }) }
+        ensures refused { OnErr result (IsRefusal self.old self.new) }
+        ensures cause { HasCause self.old.faults self.new.faults result }
+    {
+        if self.next_call_fails(count) {
+            self.refuse();
+            return Err(Failed);
+        }
+        Ok(())
+    }
+
     /// Gives the bytes from that place on.
     fn read_out(&mut self, at: usize, buf: &mut [u8])
         requires place { length self.old.log.calls < self.old.log.most }
@@ -184,10 +199,7 @@ impl Disk for MemoryDisk {
         ensures cause { HasCause self.old.faults self.new.faults result }
         ensures exact { DoesExactly memory.Idle self.old self.new result }
     {
-        if self.next_call_fails(0) {
-            self.refuse();
-            return Err(Failed);
-        }
+        self.begin(0)?;
         self.read_out(at as usize, buf);
         Ok(())
     }
@@ -203,10 +215,7 @@ impl Disk for MemoryDisk {
         ensures cause { HasCause self.old.faults self.new.faults result }
         ensures exact { DoesExactly (memory.Wrote at bytes.now) self.old self.new result }
     {
-        if self.next_call_fails(bytes.len()) {
-            self.refuse();
-            return Err(Failed);
-        }
+        self.begin(bytes.len())?;
         self.write_in(at as usize, bytes);
         Ok(())
     }
@@ -220,10 +229,7 @@ impl Disk for MemoryDisk {
         ensures cause { HasCause self.old.faults self.new.faults result }
         ensures exact { DoesExactly memory.Synced self.old self.new result }
     {
-        if self.next_call_fails(0) {
-            self.refuse();
-            return Err(Failed);
-        }
+        self.begin(0)?;
         self.settle();
         Ok(())
     }

@@ -1,4 +1,4 @@
-use Rattle.std.proofs.Common.{◌≡◌, sym, subst}
+use Rattle.std.proofs.Common.{sym, subst}
 use Rattle.class_model.specs.Plan.{plan}
 use Rattle.class_model.specs.Next.{IsNext, NextPassed}
 use Rattle.process.specs.Running.{Absorbed, absorb}

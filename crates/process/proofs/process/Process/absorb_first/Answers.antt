@@ -1,4 +1,4 @@
-use Rattle.std.proofs.Common.{◌≡◌, sym, subst}
+use Rattle.std.proofs.Common.{sym, subst}
 use Rattle.process.specs.Running.{Absorbed}
 use Rattle.process.specs.Standing.{Absorbs}
 use Rattle.process.proofs.Stands.{stands_can, stands_asked, stands_low, fresh_absorb, begin_absorb}
