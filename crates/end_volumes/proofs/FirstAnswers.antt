@@ -11,8 +11,8 @@ use Rattle.lists.specs.Lists.{below, numbers_from}
 use Rattle.words_layout.specs.Segments.{seg, numbered}
 use Rattle.words_layout.specs.declared.segment.SegId.{SegId}
 use Rattle.class_model.specs.State.{identities}
-use Rattle.end_volumes.specs.After.{first_answer}
 use Rattle.loader.proofs.Lists.{below_more}
+use Rattle.end_volumes.specs.After.{first_answer}
 
 -- ---- first answers
 
