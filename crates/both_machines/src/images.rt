@@ -5,7 +5,8 @@ ghost use Rattle.config_text.specs.Valid.{IsValid};
 
 use crate::sections::store;
 use config_text::{Config, read_config};
-use loader::{opening_machine, volume_after};
+use end_volumes::volume_after;
+use loader::opening_machine;
 use machine::{Machine, MachineParts};
 use std::alloc::Global;
 use std::test::Fail;

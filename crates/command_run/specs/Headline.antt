@@ -11,7 +11,7 @@ use Rattle.machine.specs.Opening.{machine, effects}
 use Rattle.report.specs.Reported.{section}
 use Rattle.report_laws.specs.Shown.{low_section}
 use Rattle.volume_image.specs.Written.{written}
-use Rattle.loader.specs.After.{records_after, tree_of_words}
+use Rattle.end_volumes.specs.After.{records_after, tree_of_words}
 
 -- The report: what each class is shown, in the order of the classes. `low_section` is the section of the machine of whole
 -- instructions, given only the configuration at or below the class and the order in which the steps of words at or below it

@@ -9,8 +9,9 @@ ghost use Rattle.machine.specs.Banks.{machine_of};
 ghost use Rattle.volume_image.specs.Images.{IsMadeFor};
 
 use config_text::Config;
+use end_volumes::volume_after;
 use host_ports::{Host, push_whole};
-use loader::{names_volume, volume_after};
+use loader::names_volume;
 use machine::Machine;
 use volume_image::Image;
 use words_layout::PlainWords;

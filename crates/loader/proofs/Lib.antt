@@ -16,9 +16,3 @@ pub mod Records
 pub mod Storable
 pub mod NamedVolumes
 pub mod Modelled
-pub mod FirstAnswers
-pub mod AfterCells
-pub mod AfterOrigins
-pub mod AfterPaths
-pub mod AfterVolume
-pub mod AfterLaws

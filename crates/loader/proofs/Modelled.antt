@@ -1,6 +1,6 @@
 -- How the state of the machine of whole instructions is built for what a class sees.
-use Rattle.std.proofs.Common.{ℕ, zero, suc, ◌+◌, ◌<◌, ◌≤◌, ◌≡◌, ◌∙◌, Bool, true, false, ◌&&◌, List, [], ◌∷◌, ◌++◌, refl, sym, ap, subst, arith, length, take, get_or, map, cond, Option, None}
-use Rattle.std.proofs.lemmas.Bool.{and_parts, and_from, eqb-true, eq-eqb, ltb-true, leb-true, and_right}
+use Rattle.std.proofs.Common.{ℕ, zero, suc, ◌+◌, ◌<◌, ◌≤◌, ◌≡◌, ◌∙◌, Bool, true, false, ◌&&◌, List, [], ◌∷◌, ◌++◌, refl, sym, ap, subst, arith, length, take, get_or, map, cond, None}
+use Rattle.std.proofs.lemmas.Bool.{and_parts, and_from, eqb-true, eq-eqb, ltb-true, leb-true}
 use Rattle.std.proofs.lemmas.List.{map_more, append-nil}
 use Rattle.std.proofs.lemmas.List.Elements.{filter-append}
 use Rattle.std.proofs.lemmas.List.Sums.{sum_by-cons}
@@ -9,15 +9,15 @@ use Rattle.std.specs.List.{filter, list_all, AllByRecursion}
 use Rattle.labels.specs.Label.{at_or_below}
 use Rattle.config_text.specs.declared.config.Config.{Config as ConfigText}
 use Rattle.config_text.specs.declared.config.ProcessLine.{ProcessLine as ProcessText}
-use Rattle.config_text.specs.Valid.{IsValid, is_class, uses_script, within}
+use Rattle.config_text.specs.Valid.{IsValid, is_class, uses_script}
 use Rattle.config_text.specs.Valid.{process_ok as text_process_ok}
 use Rattle.class_model.specs.Config.{Config, SegRecord, ProcessLine, low_config}
 use Rattle.class_model.specs.Run.{opening}
-use Rattle.class_model.specs.State.{State, process_at}
+use Rattle.class_model.specs.State.{process_at}
 use Rattle.class_model.specs.Valid.{IsConfig, record_ok, records_distinct}
 use Rattle.flow_laws.proofs.LowValid.{low_valid}
 use Rattle.flow_laws.proofs.Records.{is_record}
-use Rattle.whole_machine.specs.Building.{all_recorded, is_beside, name_after, begun_after, with_new, bare}
+use Rattle.whole_machine.specs.Building.{all_recorded, is_beside, with_new}
 use Rattle.whole_machine.proofs.Built.{process_is, nobody_there, records_are, valid_fresh}
 use Rattle.loader.specs.Building.{IsPut, name_of, low_of}
 use Rattle.loader.specs.Configuration.{configuration, process_of_text}

@@ -5,4 +5,3 @@ pub mod Records
 pub mod Refusals
 pub mod Stores
 pub mod Building
-pub mod After

@@ -11,8 +11,8 @@ use Rattle.class_model.specs.Config.{Config, SegRecord, classes}
 use Rattle.class_model.specs.State.{State, identities}
 use Rattle.class_model.specs.Valid.{is_root}
 use Rattle.class_model.specs.Volume.{volume_of, reached, volume}
-use Rattle.loader.specs.declared.origins.Origin.{Origin}
-use Rattle.loader.specs.After.{tree_of_state, origin, is_led, is_root_cell, record_of, record_after, records_after}
+use Rattle.end_volumes.specs.declared.origins.Origin.{Origin}
+use Rattle.end_volumes.specs.After.{tree_of_state, origin, is_led, is_root_cell, record_of, record_after, records_after}
 use Rattle.effect_laws.proofs.Good.{Good}
 use Rattle.effect_laws.proofs.StandsAfter.{good_run}
 use Rattle.volume_laws.specs.Agree.{VolumesAgree}

@@ -13,8 +13,8 @@ use Rattle.words_layout.proofs.Names.{same_seg-true, same_seg-refl}
 use Rattle.policy.specs.Known.{in_table, alias_brackets}
 use Rattle.class_model.specs.Config.{classes}
 use Rattle.class_model.specs.State.{State, cell_at, entry_at, identities}
-use Rattle.loader.specs.declared.origins.Origin.{Origin}
-use Rattle.loader.specs.After.{Tree, tree_of_state, origin_at, origin_in, origin}
+use Rattle.end_volumes.specs.declared.origins.Origin.{Origin}
+use Rattle.end_volumes.specs.After.{Tree, tree_of_state, origin_at, origin_in, origin}
 use Rattle.effect_laws.proofs.Good.{Good}
 use Rattle.volume_laws.proofs.Members.{Has, has_below, has_identity, first_some, first_none, entry_within}
 use Rattle.volume_laws.proofs.Single.{Placed}

@@ -12,8 +12,8 @@ use Rattle.class_model.specs.Section.{seen_entries}
 use Rattle.class_model.specs.State.{State, cell_at, entry_at, identities}
 use Rattle.class_model.specs.Valid.{is_root}
 use Rattle.class_model.specs.Volume.{volume_of, child_record, children, reached}
-use Rattle.loader.specs.declared.origins.Origin.{Origin}
-use Rattle.loader.specs.After.{tree_of_state, origin, mentor_of, is_root_cell, is_led, record_of}
+use Rattle.end_volumes.specs.declared.origins.Origin.{Origin}
+use Rattle.end_volumes.specs.After.{tree_of_state, origin, mentor_of, is_root_cell, is_led, record_of}
 use Rattle.effect_laws.proofs.Good.{Good}
 use Rattle.volume_laws.proofs.Members.{Has, has_flat, of_flat, has_map, of_map, has_filter, of_filter, has_entry_seen, of_entry_seen}
 use Rattle.volume_laws.proofs.Single.{Placed}

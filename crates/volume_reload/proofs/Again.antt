@@ -19,12 +19,12 @@ use Rattle.class_model.specs.Valid.{IsConfig, is_root, first_record}
 use Rattle.class_model.specs.Volume.{volume_of, volume}
 use Rattle.volume_image.specs.Valid.{IsVolume}
 use Rattle.machine.specs.Opening.{opening, effects}
-use Rattle.loader.specs.After.{tree_of_state, origin, record_of}
-use Rattle.loader.specs.declared.origins.Origin.{Origin}
 use Rattle.loader.specs.Configuration.{configuration}
 use Rattle.loader.specs.Records.{AreVolumes, Loads, Ascend, records_of, numbers_of, named_by, names_volume, same_entry, mentor_right, is_kept, tests_at, no_record, volume_at, record_at, before}
 use Rattle.loader.proofs.NamedVolumes.{named_yes, named_no}
 use Rattle.loader.proofs.Records.{loaded_config}
+use Rattle.end_volumes.specs.After.{tree_of_state, origin, record_of}
+use Rattle.end_volumes.specs.declared.origins.Origin.{Origin}
 use Rattle.effect_laws.proofs.Good.{Good}
 use Rattle.effect_laws.proofs.StandsAfter.{good_run}
 use Rattle.volume_laws.specs.Sound.{HasWords}

@@ -4,7 +4,6 @@ use Rattle.class_model.specs.Config.{Shared, SegRecord, classes, low_config}
 use Rattle.class_model.specs.Run.{opening}
 use Rattle.class_model.specs.State.{State}
 use Rattle.whole_machine.specs.Building.{all_recorded}
-use Rattle.whole_machine.specs.Parts.{state_of}
 use Rattle.loader.specs.Building.{IsPut, low_of}
 use Rattle.loader.specs.Configuration.{configuration}
 use Rattle.loader.specs.Records.{Answers, Loads, records_of}

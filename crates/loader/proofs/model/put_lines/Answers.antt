@@ -1,5 +1,4 @@
-use Rattle.std.proofs.Common.{◌≡◌, ◌<◌, ◌∙◌, List, map, take, true, None, sym, ap, subst}
-use Rattle.std.specs.Prelude.{count_by}
+use Rattle.std.proofs.Common.{◌≡◌, ◌<◌, ◌∙◌, List, take, true, None, sym, ap, subst}
 use Rattle.labels.specs.Label.{at_or_below}
 use Rattle.config_text.specs.declared.config.ProcessLine.{ProcessLine as ProcessText}
 use Rattle.class_model.specs.Config.{Shared, classes}
