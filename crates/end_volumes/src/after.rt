@@ -3,6 +3,7 @@
 ghost use Rattle.std.specs.Prelude.{◌≡◌, ◌≤◌, ◌<◌, ◌+◌, ◌*◌, ◌++◌, [], true, length, option_map, IfSome};
 ghost use Rattle.std.specs.List.{filter_map, flat_map};
 ghost use Rattle.lists.specs.Lists.{below};
+ghost use Rattle.words_layout.specs.Sizes.{most_serials};
 ghost use Rattle.words_layout.specs.Segments.{numbered};
 ghost use Rattle.words_layout.specs.Limits.{IsIdentity};
 ghost use Rattle.rings.specs.Brackets.{in_order};
@@ -26,7 +27,7 @@ use words_layout::{PlainWords, SERIAL_LIMIT, SegId};
 
 /// How many identities there are. No path without a repeat is longer.
 fn identity_count(config: &Config) -> u16
-    ensures value { result ≡ 64 * length config.now.table }
+    ensures value { result ≡ most_serials * length config.now.table }
     ensures few { result ≤ 1024 }
 {
     config.table.table_law();

@@ -1,7 +1,7 @@
 //! What is read of a cell off the words.
 
 ghost use Rattle.std.specs.Prelude.{◌≡◌, ◌<◌, ◌≤◌, ◌+◌, ◌*◌, true, length, option_map, IfSome};
-ghost use Rattle.words_layout.specs.Sizes.{class_words};
+ghost use Rattle.words_layout.specs.Sizes.{class_words, entry_count, most_classes, most_words};
 ghost use Rattle.words_layout.specs.Words.{Word, address, HomeOf};
 ghost use Rattle.words_layout.specs.Limits.{IsIdentity, word_in_limits};
 ghost use Rattle.words_layout.specs.Coding.{home_of};
@@ -21,7 +21,7 @@ use words_layout::{
 /// A class is one of 16, and the words of a machine have those of each of its classes.
 fn class_law(machine: &Machine<PlainWords>, class: u8)
     requires { class < classes machine.now.shared }
-    ensures few { class < 16 }
+    ensures few { class < most_classes }
     ensures there { class_words * class + class_words ≤ length machine.now.words }
 {
     machine.plain_law();
@@ -43,7 +43,7 @@ fn load(machine: &Machine<PlainWords>, class: u8, addr: Addr) -> u64
 pub fn entry_at(machine: &Machine<PlainWords>, class: u8, seg: SegId, entry: u8) -> Option<Alias>
     requires class { class < classes machine.now.shared }
     requires seg { IsIdentity seg }
-    requires entry { entry < 8 }
+    requires entry { entry < entry_count }
     ensures value { result ≡ (tree_of_words (machine_of machine.now)).entry class seg entry }
     ensures range { IfSome result IsEntry }
 {
@@ -94,7 +94,7 @@ pub fn stored_at(machine: &Machine<PlainWords>, class: u8, seg: SegId) -> Option
     requires class { class < classes machine.now.shared }
     requires seg { IsIdentity seg }
     ensures value { option_map (λ w. w.now) result ≡ (tree_of_words (machine_of machine.now)).stored class seg }
-    ensures few { IfSome result (λ w. length w.now ≤ 64) }
+    ensures few { IfSome result (λ w. length w.now ≤ most_words) }
 {
     match page_of(&home_at(machine, class, seg)) {
         Some((page, size)) => Some(page_words(machine, class, page, size)),

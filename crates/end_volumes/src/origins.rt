@@ -3,6 +3,7 @@
 ghost use Rattle.std.specs.Prelude.{◌≡◌, ◌<◌, ℕ, ◌*◌, if◌then◌else◌, Some, None, IfSome};
 ghost use Rattle.words_layout.specs.Segments.{numbered, same_seg};
 ghost use Rattle.words_layout.specs.Limits.{IsIdentity};
+ghost use Rattle.words_layout.specs.Sizes.{entry_count};
 ghost use Rattle.words_layout.specs.declared.segment.SegId.{SegId};
 ghost use Rattle.class_model.specs.Config.{classes};
 ghost use Rattle.machine.specs.Banks.{machine_of};
@@ -86,7 +87,7 @@ impl Origins {
     fn take_entry(&mut self, machine: &Machine<PlainWords>, class: u8, mentor: SegId, entry: u8)
         requires class { class < classes machine.now.shared }
         requires mentor { IsIdentity mentor }
-        requires entry { entry < 8 }
+        requires entry { entry < entry_count }
         ensures { Gains self.old self.new (λ u. origin_at (tree_of_words (machine_of machine.now)) u class mentor entry) }
     {
         machine.shared().table().table_law();

@@ -2,7 +2,7 @@
 
 ghost use Rattle.std.specs.Prelude.{◌≡◌, ℕ, ◌+◌, ◌*◌, ◌/◌, ◌<◌, ◌≤◌, ◌∷◌, [], map, true, IfOk, count_by, if◌then◌else◌, length, max, slice_set, ◌==◌};
 ghost use Rattle.std.specs.List.{All, filter};
-ghost use Rattle.words_layout.specs.Sizes.{class_words};
+ghost use Rattle.words_layout.specs.Sizes.{class_words, most_classes, most_pages, most_words};
 ghost use Rattle.words_layout.specs.Segments.{seg_number};
 ghost use Rattle.words_layout.specs.Words.{HomeOf, PageTenant};
 ghost use Rattle.words_layout.specs.Coding.{pack_home};
@@ -45,7 +45,7 @@ fn alias_of(segment: &SegRecord) -> Alias
 
 /// Stores where the record stands in its mentor.
 fn store_entry(words: &mut PlainWords, segment: &SegRecord)
-    requires few { length words.old / class_words ≤ 16 }
+    requires few { length words.old / class_words ≤ most_classes }
     requires record { IsStorable (length words.old / class_words) segment.now }
     ensures { words.new ≡ after_stores words.old (entry_store segment.now ∷ []) }
 {
@@ -56,7 +56,7 @@ fn store_entry(words: &mut PlainWords, segment: &SegRecord)
 
 /// Stores where each of the records stands in its mentor.
 fn store_entries(words: &mut PlainWords, records: &[SegRecord])
-    requires few { length words.old / class_words ≤ 16 }
+    requires few { length words.old / class_words ≤ most_classes }
     requires records { All (IsStorable (length words.old / class_words)) records.now }
     ensures { words.new ≡ after_stores words.old (map entry_store records.now) }
 {
@@ -67,10 +67,10 @@ fn store_entries(words: &mut PlainWords, records: &[SegRecord])
 
 /// Stores the words of a page.
 fn store_words(words: &mut PlainWords, class: u8, page: u8, kept: &[u64])
-    requires few { length words.old / class_words ≤ 16 }
+    requires few { length words.old / class_words ≤ most_classes }
     requires class { class < length words.old / class_words }
-    requires page { page < 32 }
-    requires size { length kept.now ≤ 64 }
+    requires page { page < most_pages }
+    requires size { length kept.now ≤ most_words }
     ensures { words.new ≡ after_stores words.old (word_stores class page kept.now) }
 {
     for place in 0..kept.len() {
@@ -81,9 +81,9 @@ fn store_words(words: &mut PlainWords, class: u8, page: u8, kept: &[u64])
 
 /// Stores that the record's home is that page of the class.
 fn store_home(words: &mut PlainWords, class: u8, page: u8, segment: &SegRecord)
-    requires few { length words.old / class_words ≤ 16 }
+    requires few { length words.old / class_words ≤ most_classes }
     requires class { class < length words.old / class_words }
-    requires page { page < 32 }
+    requires page { page < most_pages }
     requires record { IsStorable (length words.old / class_words) segment.now }
     ensures { words.new ≡ after_stores words.old (store_in class (HomeOf segment.now.seg) (pack_home (H.Stored page segment.now.size)) ∷ []) }
 {
@@ -97,9 +97,9 @@ fn store_home(words: &mut PlainWords, class: u8, page: u8, segment: &SegRecord)
 
 /// Stores that the record is the tenant of that page of the class.
 fn store_tenant(words: &mut PlainWords, class: u8, page: u8, segment: &SegRecord)
-    requires few { length words.old / class_words ≤ 16 }
+    requires few { length words.old / class_words ≤ most_classes }
     requires class { class < length words.old / class_words }
-    requires page { page < 32 }
+    requires page { page < most_pages }
     requires record { IsStorable (length words.old / class_words) segment.now }
     ensures { words.new ≡ after_stores words.old (store_in class (PageTenant page) (seg_number segment.now.seg + 1) ∷ []) }
 {
@@ -110,9 +110,9 @@ fn store_tenant(words: &mut PlainWords, class: u8, page: u8, segment: &SegRecord
 
 /// Stores that the record is in that page of the class, and its words there.
 fn store_page(words: &mut PlainWords, class: u8, page: u8, segment: &SegRecord, kept: &[u64])
-    requires few { length words.old / class_words ≤ 16 }
+    requires few { length words.old / class_words ≤ most_classes }
     requires class { class < length words.old / class_words }
-    requires page { page < 32 }
+    requires page { page < most_pages }
     requires record { IsStorable (length words.old / class_words) segment.now }
     requires words { kept_words segment.now ≡ kept.now }
     ensures { words.new ≡ after_stores words.old (page_stores class page segment.now) }
@@ -124,9 +124,9 @@ fn store_page(words: &mut PlainWords, class: u8, page: u8, segment: &SegRecord, 
 
 /// Stores the record in that page of the class, where it is a kept one of the class, and answers the next page.
 fn store_kept(words: &mut PlainWords, class: u8, page: u8, segment: &SegRecord) -> u8
-    requires few { length words.old / class_words ≤ 16 }
+    requires few { length words.old / class_words ≤ most_classes }
     requires class { class < length words.old / class_words }
-    requires page { is_kept class segment.now ≡ true → page < 32 }
+    requires page { is_kept class segment.now ≡ true → page < most_pages }
     requires record { IsStorable (length words.old / class_words) segment.now }
     ensures page { result ≡ page + (if is_kept class segment.now then 1 else 0) }
     ensures words { words.new ≡ after_stores words.old (if is_kept class segment.now then page_stores class page segment.now else []) }
@@ -145,10 +145,10 @@ fn store_kept(words: &mut PlainWords, class: u8, page: u8, segment: &SegRecord) 
 
 /// Stores the kept records of the class in its pages, in their order.
 fn store_pages(words: &mut PlainWords, class: u8, records: &[SegRecord])
-    requires few { length words.old / class_words ≤ 16 }
+    requires few { length words.old / class_words ≤ most_classes }
     requires class { class < length words.old / class_words }
     requires records { All (IsStorable (length words.old / class_words)) records.now }
-    requires pages { count_by (is_kept class) records.now ≤ 32 }
+    requires pages { count_by (is_kept class) records.now ≤ most_pages }
     ensures { words.new ≡ after_stores words.old (pages_from class 0 (filter (is_kept class) records.now)) }
 {
     let mut page = 0;
@@ -181,10 +181,10 @@ fn next_serial(class: u8, records: &[SegRecord]) -> u64
 
 /// Stores the next serial of the class, and its kept records in its pages.
 fn store_class(words: &mut PlainWords, class: u8, records: &[SegRecord])
-    requires few { length words.old / class_words ≤ 16 }
+    requires few { length words.old / class_words ≤ most_classes }
     requires class { class < length words.old / class_words }
     requires records { All (IsStorable (length words.old / class_words)) records.now }
-    requires pages { count_by (is_kept class) records.now ≤ 32 }
+    requires pages { count_by (is_kept class) records.now ≤ most_pages }
     ensures { words.new ≡ after_stores words.old (class_stores records.now class) }
 {
     store(words, serial_addr(class), next_serial(class, records));
@@ -197,7 +197,7 @@ pub fn words_with(
     classes: u8,
     records: &[SegRecord],
 ) -> Result<PlainWords, AllocError>
-    requires classes { (1 ≤ classes) × (classes ≤ 16) }
+    requires classes { (1 ≤ classes) × (classes ≤ most_classes) }
     requires records { AreStorable classes records.now }
     ensures words { IfOk result (λ w. (k : Config) → k.records ≡ records.now → (c : ℕ) → words_in w c ≡ opening_words k c) }
     ensures layout { IfOk result (λ w. length w / class_words ≡ classes) }
