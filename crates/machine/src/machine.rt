@@ -135,7 +135,10 @@ impl<W: WordPort> Machine<W> {
         requires { InRange self.old event }
         ensures { (effect : Option ℕ) × EventBy W.relation event self.old self.new effect }
     {
-        if !self.virtual_processor(event.processor, event.class).is_idle() {
+        if !self
+            .virtual_processor(event.processor, event.class)
+            .is_idle()
+        {
             self.step(event);
         }
     }
